@@ -1,0 +1,5 @@
+pub mod Causes
+pub mod MemSinks
+pub mod MemSources
+pub mod Moves
+pub mod Names

@@ -1,0 +1,29 @@
+//! The ground that every crate stands on: lists that contracts see as lists, names, short texts, copies, and the
+//! traits of the outside world with their forms in memory and their real forms. It knows no value type.
+#![tactic(auto)]
+
+mod content;
+mod copied;
+mod file_name;
+mod list;
+mod list_order;
+mod list_traits;
+mod mem_sink;
+mod mem_source;
+mod name;
+mod standard;
+mod streams;
+
+pub use content::{Content, Text};
+pub use copied::Copied;
+pub use file_name::FileName;
+pub use list::{Bytes, List, Word};
+pub use mem_sink::MemSink;
+pub use mem_source::MemSource;
+pub use name::Name;
+pub use sqlite_items::Boxed;
+pub use standard::{StderrSink, StdinSource, StdoutSink};
+pub use streams::{Failed, Sink, Source};
+
+#[cfg(test)]
+mod tests;
