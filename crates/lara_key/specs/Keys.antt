@@ -1,0 +1,92 @@
+-- Columns of keys, tuples of them, and their order.
+use Rattle.std.specs.Prelude.{◌≡◌, ℕ, ◌-◌, ◌^◌, Bool, true, false, ◌&&◌, nat_le, List, [], ◌∷◌, length, ◌<◌}
+use Rattle.std.proofs.Common.{refl, ap, arith, zero, suc, get_or}
+use Rattle.std.specs.declared.cmp.Ordering.{Ordering}
+use Rattle.std.specs.declared.cmp.Ordering.TheVariants.{Less, Equal, Greater}
+use Rattle.std.specs.Ordering.{nat_cmp, ordering_then}
+use Rattle.std.specs.Cmp.{IsTotalOrder}
+use Rattle.std.specs.Cmp.Lexicographic.{slice_cmp}
+use Rattle.std.specs.FinMap.{IsAntisymmetric, slice_cmp-IsAntisymmetric}
+use Rattle.std.proofs.lemmas.Bool.{and_parts}
+use Rattle.std.proofs.lemmas.Cmp.{lists_total}
+use Rattle.lara_key.specs.Orders.{IsCoded, coded_total, coded_antisymmetric}
+use Rattle.lara_key.specs.declared.key.KeyType.{KeyType}
+use Rattle.lara_key.specs.declared.key.KeyType.TheVariants as ty
+use Rattle.lara_key.specs.declared.key.KeyVal.{KeyVal}
+use Rattle.lara_key.specs.declared.key.KeyVal.TheVariants as key
+
+-- the greatest word, which of a `nat` is `over`
+abbrev pub top : ℕ
+top = 2 ^ 64 - 1
+
+-- the column is one of the type
+unfoldable pub has_key_type : KeyType → KeyVal → Bool
+has_key_type ty.Nat (key.Nat n) = nat_le n top
+
+-- a tuple with one column of each type
+unfoldable pub tuple_has : List KeyType → List KeyVal → Bool
+tuple_has [] [] = true
+tuple_has [] (v ∷ vs) = false
+tuple_has (t ∷ ts) [] = false
+tuple_has (t ∷ ts) (v ∷ vs) = has_key_type t v && tuple_has ts vs
+
+pub tuple_has_length : (ts : List KeyType) (a : List KeyVal) → tuple_has ts a ≡ true → length a ≡ length ts
+unfolding tuple_has
+tuple_has_length [] [] h = refl
+tuple_has_length [] (v ∷ vs) h = cc
+tuple_has_length (t ∷ ts) [] h = cc
+tuple_has_length (t ∷ ts) (v ∷ vs) h = ap suc (tuple_has_length ts vs ((and_parts (has_key_type t v) (tuple_has ts vs) h).1))
+
+-- the column at a place has the type there
+pub tuple_has_at : (ts : List KeyType) (a : List KeyVal) (i : ℕ) (d : KeyType) (x : KeyVal) → tuple_has ts a ≡ true → i < length ts → has_key_type (get_or ts i d) (get_or a i x) ≡ true
+unfolding tuple_has
+tuple_has_at [] a i d x h l = absurd (omega arith)
+tuple_has_at (t ∷ ts) [] i d x h l = cc
+tuple_has_at (t ∷ ts) (v ∷ vs) zero d x h l = (and_parts (has_key_type t v) (tuple_has ts vs) h).0
+tuple_has_at (t ∷ ts) (v ∷ vs) (suc i) d x h l = tuple_has_at ts vs i d x ((and_parts (has_key_type t v) (tuple_has ts vs) h).1) (omega arith)
+
+-- the column stands for all that are beyond the range of its type
+unfoldable pub key_is_over : KeyVal → Bool
+key_is_over (key.Nat n) = nat_le top n
+
+-- columns of one type by their value, and of two types by the type
+abbrev pub key_cmp : KeyVal → KeyVal → Ordering
+key_cmp (key.Nat a) (key.Nat b) = nat_cmp a b
+
+-- tuples column by column; a tuple before its extensions
+unfoldable pub tuple_cmp : List KeyVal → List KeyVal → Ordering
+tuple_cmp = slice_cmp key_cmp
+
+-- the number of the type, then the value
+key_code : KeyVal → List ℕ
+key_code (key.Nat a) = 0 ∷ a ∷ []
+
+then_equal : (o : Ordering) → o ≡ ordering_then o Equal
+then_equal Less = refl
+then_equal Equal = refl
+then_equal Greater = refl
+
+agrees : (x y : KeyVal) → key_cmp x y ≡ slice_cmp nat_cmp (key_code x) (key_code y)
+unfolding key_code
+agrees (key.Nat a) (key.Nat b) = then_equal (nat_cmp a b)
+
+apart : (x y : KeyVal) → key_code x ≡ key_code y → x ≡ y
+unfolding key_code
+apart (key.Nat a) (key.Nat b) e = ap key.Nat (cc)
+
+key_coded : IsCoded key_cmp key_code
+key_coded = record { agrees = agrees; apart = apart }
+
+pub key_cmp_total : IsTotalOrder key_cmp
+key_cmp_total = coded_total key_coded
+
+pub key_cmp_antisymmetric : IsAntisymmetric key_cmp
+key_cmp_antisymmetric = coded_antisymmetric key_coded
+
+pub tuple_cmp_total : IsTotalOrder tuple_cmp
+unfolding tuple_cmp
+tuple_cmp_total = lists_total key_cmp_total
+
+pub tuple_cmp_antisymmetric : IsAntisymmetric tuple_cmp
+unfolding tuple_cmp
+tuple_cmp_antisymmetric = slice_cmp-IsAntisymmetric key_cmp_antisymmetric

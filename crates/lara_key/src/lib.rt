@@ -1,0 +1,11 @@
+//! Keys: tuples of typed columns, and their order.
+#![tactic(auto)]
+
+mod key;
+mod key_order;
+
+pub use key::{KeyType, KeyVal, Tuple};
+pub use key_order::compare;
+
+#[cfg(test)]
+mod tests;

@@ -1,0 +1,15 @@
+//! The types of value columns: which numbers are values, and how they are added and multiplied.
+#![tactic(auto)]
+
+mod count;
+mod row;
+mod semiring;
+mod value;
+
+pub use count::CountVal;
+pub use row::{is_default, row_plus, row_times};
+pub use semiring::Semiring;
+pub use value::{Row, ValType, Value, plus, times};
+
+#[cfg(test)]
+mod tests;
