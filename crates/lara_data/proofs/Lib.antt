@@ -1,0 +1,4 @@
+pub mod FitEquations
+pub mod MeaningEquations
+pub mod TypedEquations
+mod WorkedTables

@@ -1,0 +1,122 @@
+-- Lists of distinct names, and names that stand first.
+use Rattle.std.specs.Prelude.{◌≡◌, ℕ, ◌≤◌, ◌+◌, Bool, true, false, cond, ◌&&◌, ◌||◌, not, List, [], ◌∷◌, ◌++◌, filter, length, take, drop}
+use Rattle.std.proofs.Common.{refl, sym, ap, ◌∙◌, subst, arith, suc}
+use Rattle.std.proofs.lemmas.Bool.{and_from, and_parts}
+use Rattle.std.proofs.Math.Bool.{and-false}
+use Rattle.std.proofs.lemmas.List.{take-append-drop}
+use Rattle.lara_data.specs.Names.{Name, same_name, same_name_is, same_name_itself, has, has_head, has_tail, has_append, has_among, among, among_by, distinct, common, others, not_true}
+use Rattle.lara_data.specs.Algebra.{Heading}
+use Rattle.lara_data.specs.Sequences.{SameNames, SameNames-by, SameNames-common, same_has, has_filter}
+use Rattle.lara_data.specs.FirstColumns.{StandFirst}
+
+-- ---- distinct columns
+
+pub distinct_filter : (p : Name → Bool) (ns : List Name) → distinct ns ≡ true → distinct (filter p ns) ≡ true
+unfolding distinct
+distinct_filter p [] d = refl
+distinct_filter p (n ∷ ns) d =
+    let f = not_true (has ns n) (and_parts (not (has ns n)) (distinct ns) d).0 in
+    let rest = distinct_filter p ns (and_parts (not (has ns n)) (distinct ns) d).1 in
+    let out : has (filter p ns) n ≡ false = has_filter p ns n ∙ ap (λ b. b && p n) f in
+    elim (p n) as (λ b. distinct (cond b (n ∷ filter p ns) (filter p ns)) ≡ true) [ true ↦ and_from _ _ (ap not out) rest | false ↦ rest ]
+
+pub distinct_append : (ns ms : List Name) → distinct ns ≡ true → distinct ms ≡ true → ((n : Name) → has ns n ≡ true → has ms n ≡ false) → distinct (ns ++ ms) ≡ true
+unfolding distinct
+distinct_append [] ms d e h = e
+distinct_append (n ∷ ns) ms d e h =
+    let f = not_true (has ns n) (and_parts (not (has ns n)) (distinct ns) d).0 in
+    let out : has (ns ++ ms) n ≡ false = has_append ns ms n ∙ (λ i. f i || h n (has_head n ns) i) in
+    and_from _ _ (ap not out) (distinct_append ns ms (and_parts (not (has ns n)) (distinct ns) d).1 e (λ m k. h m (has_tail m n ns k)))
+
+-- the columns of a join, and those of a sorted leg
+pub distinct_others : (ns ms : List Name) → distinct ns ≡ true → distinct ms ≡ true → distinct (ns ++ others ns ms) ≡ true
+unfolding others
+distinct_others ns ms d e =
+    distinct_append ns (filter (λ n. not (has ns n)) ms) d (distinct_filter (λ n. not (has ns n)) ms e)
+    (λ n h. has_filter (λ m. not (has ns m)) ms n ∙ ap (λ b. has ms n && not b) h ∙ and-false (has ms n))
+
+-- ---- as many columns
+
+without : Name → List Name → List Name
+without n ms = filter (λ m. not (same_name m n)) ms
+
+filter_shorter : (p : Name → Bool) (ms : List Name) → length (filter p ms) ≤ length ms
+filter_shorter p [] = omega arith
+filter_shorter p (m ∷ ms) =
+    let h = filter_shorter p ms in
+    elim (p m) as (λ b. length (cond b (m ∷ filter p ms) (filter p ms)) ≤ suc (length ms)) [ true ↦ omega (arith, h) | false ↦ omega (arith, h) ]
+
+without_shorter : (n : Name) (ms : List Name) → has ms n ≡ true → length (without n ms) + 1 ≤ length ms
+unfolding without has
+without_shorter n [] h = cc
+without_shorter n (m ∷ ms) h =
+    elim (same_name n m) as (λ b. same_name n m ≡ b → (b || has ms n) ≡ true → length (cond (not (same_name m n)) (m ∷ filter (λ k. not (same_name k n)) ms) (filter (λ k. not (same_name k n)) ms)) + 1 ≤ suc (length ms)) [
+      | true ↦ λ s k.
+          let e : same_name m n ≡ true = ap (λ x. same_name x n) (sym (same_name_is n m s)) ∙ same_name_itself n in
+          let q = filter_shorter (λ k. not (same_name k n)) ms in
+          subst (λ (b : Bool). length (cond (not b) (m ∷ filter (λ k. not (same_name k n)) ms) (filter (λ k. not (same_name k n)) ms)) + 1 ≤ suc (length ms)) (sym e) (omega (arith, q))
+      | false ↦ λ s k.
+          let q = without_shorter n ms k in
+          elim (same_name m n) as (λ b. length (cond (not b) (m ∷ filter (λ k. not (same_name k n)) ms) (filter (λ k. not (same_name k n)) ms)) + 1 ≤ suc (length ms)) [ true ↦ omega (arith, q) | false ↦ omega (arith, q) ]
+    ] refl h
+
+has_without : (n m : Name) (ms : List Name) → has ms m ≡ true → same_name m n ≡ false → has (without n ms) m ≡ true
+unfolding without
+has_without n m ms h s = has_filter (λ k. not (same_name k n)) ms m ∙ (λ i. h i && not (s i))
+
+at_least : (ns ms : List Name) → distinct ns ≡ true → among ms ns ≡ true → length ns ≤ length ms
+unfolding distinct among
+at_least [] ms d h = omega arith
+at_least (n ∷ ns) ms d h =
+    let f = not_true (has ns n) (and_parts (not (has ns n)) (distinct ns) d).0 in
+    let a = (and_parts (has ms n) (among ms ns) h).0 in
+    let b = (and_parts (has ms n) (among ms ns) h).1 in
+    let sub : among (without n ms) ns ≡ true = among_by (without n ms) ns (λ m k. has_without n m ms (has_among ms ns m b k) (apart n m ns f k)) in
+    let one = at_least ns (without n ms) (and_parts (not (has ns n)) (distinct ns) d).1 sub in
+    let two = without_shorter n ms a in
+    omega (arith, one, two)
+  where
+    apart : (n m : Name) (ns : List Name) → has ns n ≡ false → has ns m ≡ true → same_name m n ≡ false
+    apart n m ns f k =
+        elim (same_name m n) as (λ b. same_name m n ≡ b → b ≡ false) [
+          | true ↦ λ s. let e : has ns m ≡ has ns n = ap (has ns) (same_name_is m n s) in cc
+          | false ↦ λ s. refl
+        ] refl
+
+-- distinct columns that are the same as a set are as many
+pub same_length : (ns ms : List Name) → distinct ns ≡ true → distinct ms ≡ true → SameNames ns ms → length ns ≡ length ms
+same_length ns ms d e s =
+    let one = at_least ns ms d s.from in
+    let two = at_least ms ns e s.to in
+    omega (arith, one, two)
+
+-- ---- columns that stand first
+
+-- the names ns stand first in the order
+unfoldable pub begins : List Name → List Name → Bool
+begins order [] = true
+begins [] (n ∷ ns) = false
+begins (m ∷ order) (n ∷ ns) = same_name m n && begins order ns
+
+pub begins_with : (order ns : List Name) → begins order ns ≡ true → order ≡ ns ++ drop (length ns) order
+unfolding begins
+begins_with order [] h = refl
+begins_with [] (n ∷ ns) h = cc
+begins_with (m ∷ order) (n ∷ ns) h =
+    let s = same_name_is m n (and_parts (same_name m n) (begins order ns) h).0 in
+    let r = begins_with order ns (and_parts (same_name m n) (begins order ns) h).1 in
+    λ i. s i ∷ r i
+
+pub first_columns : (order : List Name) (n : ℕ) → order ≡ take n order ++ drop n order
+first_columns order n = sym (take-append-drop n order)
+
+-- the legs of a compiled join have their common columns first, in one sequence
+pub stand_first : (a b a' b' : Heading) (n : ℕ) (q : List Name) → SameNames a.keys a'.keys → SameNames b.keys b'.keys → SameNames (take n a'.keys) (common a.keys b.keys) → b'.keys ≡ take n a'.keys ++ q → distinct a'.keys ≡ true → distinct b'.keys ≡ true →
+    StandFirst (take n a'.keys) a' b' (drop n a'.keys) q
+stand_first a b a' b' n q sa sb sc e da db = record {
+  left_keys = first_columns a'.keys n;
+  right_keys = e;
+  are_common = SameNames-by (common a'.keys b'.keys) (take n a'.keys) (λ m. sym (same_has (SameNames-common sa sb) m) ∙ sym (same_has sc m));
+  left_distinct = da;
+  right_distinct = db;
+}

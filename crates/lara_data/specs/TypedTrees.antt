@@ -1,0 +1,48 @@
+-- Which trees are typed: every node has its type by the rules.
+use Rattle.std.specs.Prelude.{◌≡◌, Bool, true, fold, if◌then◌else◌, List, Option, Some, None, Result, Ok}
+use Rattle.std.specs.List.{list_all}
+use Rattle.lara_data.specs.declared.node.Node.{Node}
+use Rattle.lara_data.specs.declared.node.Op.{Op}
+use Rattle.lara_data.specs.declared.node.Op.TheBlock.{end_of-Node, more_of-Node}
+use Rattle.lara_data.specs.declared.node.Op.TheVariants.{Load, Named, Literal, Join', Union', Agg', Map', Filter', Promote', Rename', Apply'}
+use Rattle.lara_data.specs.declared.schema.Schema.{Schema}
+use Rattle.lara_data.specs.TableTypes.{Columns, types, are_columns}
+use Rattle.lara_data.specs.Names.{Name, same_name}
+use Rattle.lara_data.specs.Apart.{AllKeys}
+use Rattle.lara_data.specs.KeyedTables.{all_have}
+use Rattle.lara_data.specs.TypedTables.{KeyHas}
+use Rattle.lara_data.specs.Tables.{Entries, is_entry_in_range}
+use Rattle.lara_data.specs.TypeRules.{join_type, union_type, agg_type}
+
+abbrev pub newer_type : Name → Option Columns → Schema → Option Columns
+newer_type n found known = if same_name n known.name then Some known.ty else found
+
+-- the newest type of a name
+unfoldable pub type_named : Name → List Schema → Option Columns
+type_named n known = fold (newer_type n) None known
+
+-- columns of a type, and entries with one key value and one value of each column's type, none past its range
+pub record IsLiteral (ty : Columns) (es : Entries) : Type 0 where
+  pub columns : are_columns ty.keys ty.vals ≡ true
+  pub keys : AllKeys (KeyHas ty.keys) es
+  pub rows : all_have (types ty.vals) es ≡ true
+  pub in_range : list_all (is_entry_in_range (types ty.vals)) es ≡ true
+
+-- What an operator makes has the columns by the rules, and so has each node below. A load has the stored table's, which
+-- stand in its node. Maps, filters, promotes, renames and applies have no rules yet, so that no typed tree has one.
+unfoldable pub OpTyped : List Schema → Op → Columns → Type 0
+OpTyped known (Load n) ty = are_columns ty.keys ty.vals ≡ true
+OpTyped known (Named n) ty = type_named n known ≡ Some ty
+OpTyped known (Literal es) ty = IsLiteral ty es
+OpTyped known (Join' _ (more_of-Node t a end_of-Node) _ (more_of-Node u b end_of-Node)) ty = (join_type t u ≡ Ok ty) × OpTyped known a t × OpTyped known b u
+OpTyped known (Union' _ (more_of-Node t a end_of-Node) _ (more_of-Node u b end_of-Node)) ty = (union_type t u ≡ Ok ty) × OpTyped known a t × OpTyped known b u
+OpTyped known (Agg' _ (more_of-Node t a end_of-Node) ks) ty = (agg_type t ks ≡ Ok ty) × OpTyped known a t
+OpTyped known (Map' _ (more_of-Node t a end_of-Node) defs) ty = ⊥
+OpTyped known (Filter' _ (more_of-Node t a end_of-Node) test) ty = ⊥
+OpTyped known (Promote' _ (more_of-Node t a end_of-Node) def) ty = ⊥
+OpTyped known (Rename' _ (more_of-Node t a end_of-Node) pairs) ty = ⊥
+OpTyped known (Apply' _ (more_of-Node t a end_of-Node) call) ty = ⊥
+
+-- every node has its type by the rules, where these names are known
+abbrev pub IsTyped : List Schema → Node → Type 0
+IsTyped known node = OpTyped known node.op node.ty

@@ -1,0 +1,58 @@
+//! The types of cells, without names.
+ghost use Rattle.std.specs.Prelude.{◌≡◌, IfOk};
+
+use lara_base::{Copied, List};
+use lara_key::KeyType;
+use lara_semiring::ValType;
+use std::alloc::{AllocError, Global};
+
+/// The types of the columns of a cell. A key is of the shape where it is the code of a tuple of the key types, and a
+/// cell where its key is so and its row has the value types.
+#[derive(Drop)]
+pub struct Shape {
+    pub keys: List<KeyType>,
+    pub vals: List<ValType>,
+}
+
+/// The places of a common value column on both sides of a join, counted from 0.
+#[derive(Clone, Copy, Debug, PartialEq, Eq)]
+pub struct ColPair {
+    pub left: u32,
+    pub right: u32,
+}
+
+/// The shapes of both sides of a join, how many key columns they have in common, which stand first on both sides, and
+/// the places of their common value columns in left order.
+#[derive(Drop)]
+pub struct JoinShape {
+    pub left: Shape,
+    pub right: Shape,
+    pub common: u32,
+    pub pairs: List<ColPair>,
+}
+
+impl Copied for Shape {
+    fn copy(&self, alloc: Global) -> Result<Shape, AllocError> {
+        Ok(Shape {
+            keys: self.keys.copy(alloc)?,
+            vals: self.vals.copy(alloc)?,
+        })
+    }
+}
+
+impl Copied for ColPair {
+    fn copy(&self, _alloc: Global) -> Result<ColPair, AllocError> {
+        Ok(*self)
+    }
+}
+
+impl Copied for JoinShape {
+    fn copy(&self, alloc: Global) -> Result<JoinShape, AllocError> {
+        Ok(JoinShape {
+            left: self.left.copy(alloc)?,
+            right: self.right.copy(alloc)?,
+            common: self.common,
+            pairs: self.pairs.copy(alloc)?,
+        })
+    }
+}
