@@ -1,0 +1,208 @@
+-- All refusals of a statement are of one kind.
+use Rattle.std.proofs.Common.{◌≡◌, ◌<◌, ℕ, zero, suc, List, [], ◌∷◌, ◌++◌, length, Option, Some, None, Ok, Err, inl, inr, refl, sym, ap, ◌∙◌, arith, Bool, true, false, cond, eqb}
+use Rattle.lara_syntax.specs.declared.item.Lexeme.{Lexeme}
+use Rattle.lara_syntax.specs.declared.item.Lexeme.TheVariants as lex
+use Rattle.lara_syntax.specs.declared.item.Keyword.TheVariants as key
+use Rattle.lara_syntax.specs.declared.item.Sign.{Sign}
+use Rattle.lara_syntax.specs.declared.item.Sign.TheVariants.{Is, Semi, Comma, Colon, OpenBracket, CloseBracket, OpenBrace, CloseBrace}
+use Rattle.lara_data.specs.declared.refusal.Kind.TheVariants.{Unexpected}
+use Rattle.lara_syntax.specs.declared.fault.Stop.{Stop}
+use Rattle.lara_syntax.specs.declared.fault.Fault.TheVariants as faults
+use Rattle.lara_syntax.specs.declared.ast.AstEntry.{AstEntry}
+use Rattle.lara_syntax.specs.Steps.{Items, Read, Reader, ◌>>=◌, give, refuse, peek, skip, items_from, head_word}
+use Rattle.lara_syntax.specs.Reading as r
+use Rattle.lara_syntax.specs.Reading.{sign, sign_by, sign_number}
+use Rattle.lara_syntax.proofs.Turns.{TakesOne, erred, list-some, list-none, list-fail}
+use Rattle.lara_syntax.proofs.Readers.{bind_err, ok_err, stop_is}
+use Rattle.lara_syntax.proofs.RuleReaders.{comma_name-one, comma_key_col-one, comma_val_col-one, comma_lit-one, semi_entry-one}
+
+-- ---- all refusals but those of a statement too many are of one kind
+
+abbrev pub Plain : {A : Type 0} → Reader A → Type 0
+Plain {A = A} p = (ts : Items) (d : Stop) → p ts ≡ erred d → d.kind ≡ Unexpected
+
+plain_bind : {A B : Type 0} (p : Reader A) (f : A → Reader B) → Plain p → ((x : A) → Plain (f x)) → Plain (p >>= f)
+plain_bind p f pp pf ts d e = elim (bind_err (p ts) f d e) [
+  | inl h ↦ pp ts d h
+  | inr h ↦ pf h.0 h.1 d h.3
+]
+
+plain_give : {A : Type 0} (x : A) → Plain (give x)
+plain_give x ts d e = absurd (ok_err x ts d e)
+
+plain_refuse : {A : Type 0} → Plain (refuse {A = A} Unexpected)
+plain_refuse {A = A} ts d e = let s : record { left = length ts; kind = Unexpected } ≡ d = stop_is {A = A} _ d e in sym (ap (λ (x : Stop). x.kind) s)
+
+plain_skip : Plain skip
+plain_skip [] d e = let s : record { left = 0; kind = Unexpected } ≡ d = stop_is {A = ℕ} _ d e in sym (ap (λ (x : Stop). x.kind) s)
+plain_skip (t ∷ ts) d e = absurd (ok_err t.at ts d e)
+
+plain_choice : {A : Type 0} (by : Option Lexeme → Reader A) → ((w : Option Lexeme) → Plain (by w)) → Plain (peek >>= by)
+plain_choice by cases ts d e = cases (head_word ts) ts d e
+
+plain_list_by : {A : Type 0} (item : Reader (Option A)) → TakesOne item → Plain item → (n : ℕ)
+    → ((acc : List A) (ts : Items) (d : Stop) → length ts < n → items_from item acc ts ≡ erred d → d.kind ≡ Unexpected)
+    → (o : Read (Option A)) (acc : List A) (ts : Items) (d : Stop) → item ts ≡ o → length ts < suc n → items_from item acc ts ≡ erred d → d.kind ≡ Unexpected
+plain_list_by item one pi n next (Ok (None, m)) acc ts d h lt e = absurd (ok_err acc m d (sym (list-none (λ ys. item) (λ ys. one) acc ts None m h refl) ∙ e))
+plain_list_by item one pi n next (Ok (Some x, m)) acc ts d h lt e = next (acc ++ x ∷ []) m d (omega (arith, lt, one.shorter ts x m h)) (sym (list-some (λ ys. item) (λ ys. one) acc ts x m h) ∙ e)
+plain_list_by {A = A} item one pi n next (Err c) acc ts d h lt e =
+    let same : c ≡ d = stop_is {A = List A} c d (sym (list-fail (λ ys. item) (λ ys. one) acc ts (faults.Stopped c) h) ∙ e) in
+    pi ts d (h ∙ ap (λ (s : Stop). erred s) same)
+
+plain_list_within : {A : Type 0} (item : Reader (Option A)) → TakesOne item → Plain item → (n : ℕ) (acc : List A) (ts : Items) (d : Stop) → length ts < n → items_from item acc ts ≡ erred d → d.kind ≡ Unexpected
+plain_list_within item one pi zero acc ts d lt e = absurd (omega arith)
+plain_list_within item one pi (suc n) acc ts d lt e = plain_list_by item one pi n (plain_list_within item one pi n) (item ts) acc ts d refl lt e
+
+plain_items : {A : Type 0} (item : Reader (Option A)) → TakesOne item → Plain item → (acc : List A) → Plain (items_from item acc)
+plain_items item one pi acc ts d e = plain_list_within item one pi (suc (length ts)) acc ts d (omega arith) e
+
+plain_cond : {A : Type 0} (b : Bool) (p q : Reader A) → Plain p → Plain q → Plain (cond b p q)
+plain_cond true p q pp pq = pp
+plain_cond false p q pp pq = pq
+
+sign_by-plain : (m : Sign) (w : Option Lexeme) → Plain (sign_by m w)
+sign_by-plain m (Some (lex.Sign k)) = plain_cond (eqb (sign_number m) (sign_number k)) skip (refuse Unexpected) plain_skip plain_refuse
+sign_by-plain m w = plain_refuse
+
+sign-plain : (m : Sign) → Plain (sign m)
+unfolding sign
+sign-plain m = plain_choice (sign_by m) (sign_by-plain m)
+
+name_by-plain : (w : Option Lexeme) → Plain (r.name_by w)
+name_by-plain (Some (lex.Name n)) = plain_bind skip _ plain_skip (λ at. plain_give _)
+name_by-plain w = plain_refuse
+
+name-plain : Plain r.name
+unfolding r.name
+name-plain = plain_choice r.name_by name_by-plain
+
+key_type_by-plain : (w : Option Lexeme) → Plain (r.key_type_by w)
+key_type_by-plain (Some (lex.Key key.Nat)) = plain_bind skip _ plain_skip (λ at. plain_give _)
+key_type_by-plain w = plain_refuse
+
+key_type-plain : Plain r.key_type
+unfolding r.key_type
+key_type-plain = plain_choice r.key_type_by key_type_by-plain
+
+val_type_by-plain : (w : Option Lexeme) → Plain (r.val_type_by w)
+val_type_by-plain (Some (lex.Key key.Count)) = plain_bind skip _ plain_skip (λ at. plain_give _)
+val_type_by-plain w = plain_refuse
+
+val_type-plain : Plain r.val_type
+unfolding r.val_type
+val_type-plain = plain_choice r.val_type_by val_type_by-plain
+
+lit_by-plain : (w : Option Lexeme) → Plain (r.lit_by w)
+lit_by-plain (Some (lex.Number n)) = plain_bind skip _ plain_skip (λ at. plain_give _)
+lit_by-plain w = plain_refuse
+
+lit-plain : Plain r.lit
+unfolding r.lit
+lit-plain = plain_choice r.lit_by lit_by-plain
+
+comma_by-plain : {A : Type 0} (p : Reader A) → Plain p → (w : Option Lexeme) → Plain (r.comma_by p w)
+comma_by-plain p pp (Some (lex.Sign Comma)) = plain_bind skip (λ at. p >>= λ x. give (Some x)) plain_skip (λ at. plain_bind p (λ x. give (Some x)) pp (λ x. plain_give (Some x)))
+comma_by-plain p pp w = plain_give None
+
+commas-plain : {A : Type 0} (p : Reader A) → Plain p → TakesOne (r.comma_then p) → Plain (p >>= λ x. items_from (r.comma_then p) (x ∷ []))
+commas-plain p pp one = plain_bind p (λ x. items_from (r.comma_then p) (x ∷ [])) pp (λ x. plain_items (r.comma_then p) one (plain_choice (r.comma_by p) (comma_by-plain p pp)) (x ∷ []))
+
+some_names_by-plain : (w : Option Lexeme) → Plain (r.some_names_by w)
+unfolding r.comma_name
+some_names_by-plain (Some (lex.Name n)) = commas-plain r.name name-plain comma_name-one
+some_names_by-plain w = plain_give []
+
+some_names-plain : Plain r.some_names
+unfolding r.some_names
+some_names-plain = plain_choice r.some_names_by some_names_by-plain
+
+key_col-plain : Plain r.key_col
+unfolding r.key_col
+key_col-plain = plain_bind r.name _ name-plain (λ x. plain_bind (sign Colon) _ (sign-plain Colon) (λ at. plain_bind r.key_type _ key_type-plain (λ t. plain_give _)))
+
+some_key_cols_by-plain : (w : Option Lexeme) → Plain (r.some_key_cols_by w)
+unfolding r.comma_key_col
+some_key_cols_by-plain (Some (lex.Name n)) = commas-plain r.key_col key_col-plain comma_key_col-one
+some_key_cols_by-plain w = plain_give []
+
+some_key_cols-plain : Plain r.some_key_cols
+unfolding r.some_key_cols
+some_key_cols-plain = plain_choice r.some_key_cols_by some_key_cols_by-plain
+
+val_col-plain : Plain r.val_col
+unfolding r.val_col
+val_col-plain = plain_bind r.name _ name-plain (λ x. plain_bind (sign Colon) _ (sign-plain Colon) (λ at. plain_bind r.val_type _ val_type-plain (λ t. plain_give _)))
+
+val_cols-plain : Plain r.val_cols
+unfolding r.val_cols r.comma_val_col
+val_cols-plain = commas-plain r.val_col val_col-plain comma_val_col-one
+
+table_type-plain : Plain r.table_type
+unfolding r.table_type
+table_type-plain = plain_bind (sign OpenBracket) _ (sign-plain OpenBracket) (λ a. plain_bind r.some_key_cols _ some_key_cols-plain (λ ks. plain_bind (sign Colon) _ (sign-plain Colon) (λ b. plain_bind r.val_cols _ val_cols-plain (λ vs. plain_bind (sign CloseBracket) _ (sign-plain CloseBracket) (λ c. plain_give _)))))
+
+lits-plain : Plain r.lits
+unfolding r.lits r.comma_lit
+lits-plain = commas-plain r.lit lit-plain comma_lit-one
+
+some_lits_by-plain : (w : Option Lexeme) → Plain (r.some_lits_by w)
+some_lits_by-plain (Some (lex.Number n)) = lits-plain
+some_lits_by-plain w = plain_give []
+
+some_lits-plain : Plain r.some_lits
+unfolding r.some_lits
+some_lits-plain = plain_choice r.some_lits_by some_lits_by-plain
+
+entry-plain : Plain r.entry
+unfolding r.entry
+entry-plain = plain_bind r.some_lits _ some_lits-plain (λ ks. plain_bind (sign Colon) _ (sign-plain Colon) (λ at. plain_bind r.lits _ lits-plain (λ row. plain_give _)))
+
+entry_here_by-plain : (w : Option Lexeme) → Plain (r.entry_here_by w)
+entry_here_by-plain (Some (lex.Number n)) = plain_bind r.entry _ entry-plain (λ x. plain_give _)
+entry_here_by-plain (Some (lex.Sign Colon)) = plain_bind r.entry _ entry-plain (λ x. plain_give _)
+entry_here_by-plain w = plain_give None
+
+entry_here-plain : Plain r.entry_here
+unfolding r.entry_here
+entry_here-plain = plain_choice r.entry_here_by entry_here_by-plain
+
+semi_entry_by-plain : (w : Option Lexeme) → Plain (r.semi_entry_by w)
+semi_entry_by-plain (Some (lex.Sign Semi)) = plain_bind skip (λ at. r.entry_here) plain_skip (λ at. entry_here-plain)
+semi_entry_by-plain w = plain_give None
+
+semi_entry-plain : Plain r.semi_entry
+unfolding r.semi_entry
+semi_entry-plain = plain_choice r.semi_entry_by semi_entry_by-plain
+
+entries_from-plain : (o : Option AstEntry) → Plain (r.entries_from o)
+entries_from-plain None = plain_give []
+entries_from-plain (Some x) = plain_items r.semi_entry semi_entry-one semi_entry-plain (x ∷ [])
+
+some_entries-plain : Plain r.some_entries
+unfolding r.some_entries
+some_entries-plain = plain_bind r.entry_here r.entries_from entry_here-plain entries_from-plain
+
+table_by-plain : (w : Option Lexeme) → Plain (r.table_by w)
+table_by-plain (Some (lex.Key key.Table)) = plain_bind skip _ plain_skip (λ at. plain_bind r.table_type _ table_type-plain (λ ty. plain_bind (sign OpenBrace) _ (sign-plain OpenBrace) (λ a. plain_bind r.some_entries _ some_entries-plain (λ es. plain_bind (sign CloseBrace) _ (sign-plain CloseBrace) (λ b. plain_give _)))))
+table_by-plain w = plain_refuse
+
+table-plain : Plain r.table
+unfolding r.table
+table-plain = plain_choice r.table_by table_by-plain
+
+some_order_by-plain : (w : Option Lexeme) → Plain (r.some_order_by w)
+some_order_by-plain (Some (lex.Key key.By)) = plain_bind skip _ plain_skip (λ at. plain_bind r.some_names _ some_names-plain (λ ns. plain_give _))
+some_order_by-plain w = plain_give None
+
+some_order-plain : Plain r.some_order
+unfolding r.some_order
+some_order-plain = plain_choice r.some_order_by some_order_by-plain
+
+statement_by-plain : (w : Option Lexeme) → Plain (r.statement_by w)
+statement_by-plain (Some (lex.Name n)) = plain_bind r.name _ name-plain (λ x. plain_bind (sign Is) _ (sign-plain Is) (λ a. plain_bind r.table _ table-plain (λ t. plain_bind (sign Semi) _ (sign-plain Semi) (λ b. plain_give _))))
+statement_by-plain (Some (lex.Key key.Print)) = plain_bind skip _ plain_skip (λ at. plain_bind r.name _ name-plain (λ x. plain_bind r.some_order _ some_order-plain (λ by. plain_bind (sign Semi) _ (sign-plain Semi) (λ b. plain_give _))))
+statement_by-plain w = plain_refuse
+
+pub statement-plain : Plain r.statement
+unfolding r.statement
+statement-plain = plain_choice r.statement_by statement_by-plain

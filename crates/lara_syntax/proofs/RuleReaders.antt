@@ -1,0 +1,309 @@
+-- Each rule is a reader, and what takes a word.
+use Rattle.std.proofs.Common.{◌≡◌, ℕ, ◌<◌, List, [], ◌∷◌, ◌++◌, length, Option, Some, None, Ok, ap, arith, Bool, true, false, cond, nat_lt}
+use Rattle.lara_syntax.specs.declared.item.Lexeme.{Lexeme}
+use Rattle.lara_syntax.specs.declared.item.Lexeme.TheVariants as lex
+use Rattle.lara_syntax.specs.declared.item.Keyword.TheVariants as key
+use Rattle.lara_syntax.specs.declared.item.Sign.{Sign}
+use Rattle.lara_syntax.specs.declared.item.Sign.TheVariants.{Is, Semi, Comma, Colon, OpenBracket, CloseBracket, OpenBrace, CloseBrace}
+use Rattle.lara_data.specs.declared.refusal.Kind.TheVariants.{Unexpected}
+use Rattle.lara_syntax.specs.declared.fault.Fault.{Fault}
+use Rattle.lara_syntax.specs.declared.ast.AstName.{AstName}
+use Rattle.lara_syntax.specs.declared.ast.AstEntry.{AstEntry}
+use Rattle.lara_syntax.specs.declared.ast.AstStatement.{AstStatement}
+use Rattle.lara_syntax.specs.declared.ast.AstStatement.TheVariants as st
+use Rattle.std.proofs.lemmas.List.{length-append}
+use Rattle.lara_syntax.specs.Steps.{Items, Reader, ◌>>=◌, give, peek, items_from, head_word, Fails}
+use Rattle.lara_syntax.specs.Reading.{sign, sign_by, name, name_by, key_type, key_type_by, val_type, val_type_by, lit, lit_by, comma_by, comma_then, comma_name, some_names, some_names_by, key_col, comma_key_col, some_key_cols, some_key_cols_by, val_col, comma_val_col, val_cols, table_type, comma_lit, lits, some_lits, some_lits_by, entry, entry_here, entry_here_by, semi_entry, semi_entry_by, entries_from, some_entries, table, table_by, some_order, some_order_by, statement, statement_by, no_room, next_by, next_statement, statements, script}
+use Rattle.lara_syntax.proofs.Turns.{TakesOne, read_of, err_ok, none_some, rest_is, list-some, list-none, list-fail}
+use Rattle.lara_syntax.proofs.Readers.{IsReader, reads_bind, reads_give, reads_refuse, reads_peek, reads_skip, reads_items, reads_list, skip_shortens, bind_ok}
+
+-- ---- one word
+
+reads_cond : {A : Type 0} (b : Bool) (p q : Reader A) → IsReader p → IsReader q → IsReader (cond b p q)
+reads_cond true p q ip iq = ip
+reads_cond false p q ip iq = iq
+
+sign_by-reads : (m : Sign) (w : Option Lexeme) → IsReader (sign_by m w)
+sign_by-reads m (Some (lex.Sign k)) = reads_cond _ _ _ reads_skip (reads_refuse Unexpected)
+sign_by-reads m w = reads_refuse Unexpected
+
+pub sign-reads : (m : Sign) → IsReader (sign m)
+unfolding sign
+sign-reads m = reads_bind peek (sign_by m) reads_peek (sign_by-reads m)
+
+name_by-reads : (w : Option Lexeme) → IsReader (name_by w)
+name_by-reads (Some (lex.Name n)) = reads_bind _ _ reads_skip (λ at. reads_give _)
+name_by-reads w = reads_refuse Unexpected
+
+pub name-reads : IsReader name
+unfolding name
+name-reads = reads_bind peek name_by reads_peek name_by-reads
+
+key_type_by-reads : (w : Option Lexeme) → IsReader (key_type_by w)
+key_type_by-reads (Some (lex.Key key.Nat)) = reads_bind _ _ reads_skip (λ at. reads_give _)
+key_type_by-reads w = reads_refuse Unexpected
+
+pub key_type-reads : IsReader key_type
+unfolding key_type
+key_type-reads = reads_bind peek key_type_by reads_peek key_type_by-reads
+
+val_type_by-reads : (w : Option Lexeme) → IsReader (val_type_by w)
+val_type_by-reads (Some (lex.Key key.Count)) = reads_bind _ _ reads_skip (λ at. reads_give _)
+val_type_by-reads w = reads_refuse Unexpected
+
+pub val_type-reads : IsReader val_type
+unfolding val_type
+val_type-reads = reads_bind peek val_type_by reads_peek val_type_by-reads
+
+lit_by-reads : (w : Option Lexeme) → IsReader (lit_by w)
+lit_by-reads (Some (lex.Number n)) = reads_bind _ _ reads_skip (λ at. reads_give _)
+lit_by-reads w = reads_refuse Unexpected
+
+pub lit-reads : IsReader lit
+unfolding lit
+lit-reads = reads_bind peek lit_by reads_peek lit_by-reads
+
+-- ---- lists
+
+comma_by-reads : {A : Type 0} (p : Reader A) → IsReader p → (w : Option Lexeme) → IsReader (comma_by p w)
+comma_by-reads p ip (Some (lex.Sign Comma)) = reads_bind _ _ reads_skip (λ at. reads_bind p _ ip (λ x. reads_give _))
+comma_by-reads p ip w = reads_give None
+
+pub comma-reads : {A : Type 0} (p : Reader A) → IsReader p → IsReader (comma_then p)
+comma-reads p ip = reads_bind peek (comma_by p) reads_peek (comma_by-reads p ip)
+
+comma_by-one : {A : Type 0} (p : Reader A) → IsReader p → (w : Option Lexeme) (ts : Items) (x : A) (u : Items) → comma_by p w ts ≡ read_of (Some x) u → length u < length ts
+comma_by-one p ip (Some (lex.Sign Comma)) ts x u e = skip_shortens _ (λ at. reads_bind p _ ip (λ x. reads_give _)) ts (Some x) u e
+comma_by-one p ip w ts x u e = absurd (none_some ts u x e)
+
+pub comma-one : {A : Type 0} (p : Reader A) → IsReader p → TakesOne (comma_then p)
+comma-one p ip = record { shorter = λ ts x u e. comma_by-one p ip (head_word ts) ts x u e }
+
+-- ---- names
+
+pub comma_name-reads : IsReader comma_name
+unfolding comma_name
+comma_name-reads = comma-reads name name-reads
+
+pub comma_name-one : TakesOne comma_name
+unfolding comma_name
+comma_name-one = comma-one name name-reads
+
+some_names_by-reads : (w : Option Lexeme) → IsReader (some_names_by w)
+some_names_by-reads (Some (lex.Name n)) = reads_bind name (λ x. items_from comma_name (x ∷ [])) name-reads (λ x. reads_items comma_name comma_name-one comma_name-reads (x ∷ []))
+some_names_by-reads w = reads_give []
+
+pub some_names-reads : IsReader some_names
+unfolding some_names
+some_names-reads = reads_bind peek some_names_by reads_peek some_names_by-reads
+
+-- ---- columns
+
+pub key_col-reads : IsReader key_col
+unfolding key_col
+key_col-reads = reads_bind _ _ name-reads (λ x. reads_bind _ _ (sign-reads Colon) (λ at. reads_bind _ _ key_type-reads (λ t. reads_give _)))
+
+pub comma_key_col-reads : IsReader comma_key_col
+unfolding comma_key_col
+comma_key_col-reads = comma-reads key_col key_col-reads
+
+pub comma_key_col-one : TakesOne comma_key_col
+unfolding comma_key_col
+comma_key_col-one = comma-one key_col key_col-reads
+
+some_key_cols_by-reads : (w : Option Lexeme) → IsReader (some_key_cols_by w)
+some_key_cols_by-reads (Some (lex.Name n)) = reads_bind key_col (λ x. items_from comma_key_col (x ∷ [])) key_col-reads (λ x. reads_items comma_key_col comma_key_col-one comma_key_col-reads (x ∷ []))
+some_key_cols_by-reads w = reads_give []
+
+pub some_key_cols-reads : IsReader some_key_cols
+unfolding some_key_cols
+some_key_cols-reads = reads_bind peek some_key_cols_by reads_peek some_key_cols_by-reads
+
+pub val_col-reads : IsReader val_col
+unfolding val_col
+val_col-reads = reads_bind _ _ name-reads (λ x. reads_bind _ _ (sign-reads Colon) (λ at. reads_bind _ _ val_type-reads (λ t. reads_give _)))
+
+pub comma_val_col-reads : IsReader comma_val_col
+unfolding comma_val_col
+comma_val_col-reads = comma-reads val_col val_col-reads
+
+pub comma_val_col-one : TakesOne comma_val_col
+unfolding comma_val_col
+comma_val_col-one = comma-one val_col val_col-reads
+
+pub val_cols-reads : IsReader val_cols
+unfolding val_cols
+val_cols-reads = reads_bind val_col (λ x. items_from comma_val_col (x ∷ [])) val_col-reads (λ x. reads_items comma_val_col comma_val_col-one comma_val_col-reads (x ∷ []))
+
+pub table_type-reads : IsReader table_type
+unfolding table_type
+table_type-reads = reads_bind _ _ (sign-reads OpenBracket) (λ at. reads_bind _ _ some_key_cols-reads (λ ks. reads_bind _ _ (sign-reads Colon) (λ mid. reads_bind _ _ val_cols-reads (λ vs. reads_bind _ _ (sign-reads CloseBracket) (λ end. reads_give _)))))
+
+-- ---- entries
+
+pub comma_lit-reads : IsReader comma_lit
+unfolding comma_lit
+comma_lit-reads = comma-reads lit lit-reads
+
+pub comma_lit-one : TakesOne comma_lit
+unfolding comma_lit
+comma_lit-one = comma-one lit lit-reads
+
+pub lits-reads : IsReader lits
+unfolding lits
+lits-reads = reads_bind lit (λ x. items_from comma_lit (x ∷ [])) lit-reads (λ x. reads_items comma_lit comma_lit-one comma_lit-reads (x ∷ []))
+
+some_lits_by-reads : (w : Option Lexeme) → IsReader (some_lits_by w)
+some_lits_by-reads (Some (lex.Number n)) = lits-reads
+some_lits_by-reads w = reads_give []
+
+pub some_lits-reads : IsReader some_lits
+unfolding some_lits
+some_lits-reads = reads_bind peek some_lits_by reads_peek some_lits_by-reads
+
+pub entry-reads : IsReader entry
+unfolding entry
+entry-reads = reads_bind _ _ some_lits-reads (λ ks. reads_bind _ _ (sign-reads Colon) (λ at. reads_bind _ _ lits-reads (λ row. reads_give _)))
+
+entry_here_by-reads : (w : Option Lexeme) → IsReader (entry_here_by w)
+entry_here_by-reads (Some (lex.Number n)) = reads_bind _ _ entry-reads (λ x. reads_give _)
+entry_here_by-reads (Some (lex.Sign Colon)) = reads_bind _ _ entry-reads (λ x. reads_give _)
+entry_here_by-reads w = reads_give None
+
+pub entry_here-reads : IsReader entry_here
+unfolding entry_here
+entry_here-reads = reads_bind peek entry_here_by reads_peek entry_here_by-reads
+
+semi_entry_by-reads : (w : Option Lexeme) → IsReader (semi_entry_by w)
+semi_entry_by-reads (Some (lex.Sign Semi)) = reads_bind _ _ reads_skip (λ at. entry_here-reads)
+semi_entry_by-reads w = reads_give None
+
+pub semi_entry-reads : IsReader semi_entry
+unfolding semi_entry
+semi_entry-reads = reads_bind peek semi_entry_by reads_peek semi_entry_by-reads
+
+semi_entry_by-one : (w : Option Lexeme) (ts : Items) (x : AstEntry) (u : Items) → semi_entry_by w ts ≡ read_of (Some x) u → length u < length ts
+semi_entry_by-one (Some (lex.Sign Semi)) ts x u e = skip_shortens _ (λ at. entry_here-reads) ts (Some x) u e
+semi_entry_by-one w ts x u e = absurd (none_some ts u x e)
+
+pub semi_entry-one : TakesOne semi_entry
+unfolding semi_entry
+semi_entry-one = record { shorter = λ ts x u e. semi_entry_by-one (head_word ts) ts x u e }
+
+pub entries_from-reads : (o : Option AstEntry) → IsReader (entries_from o)
+entries_from-reads None = reads_give []
+entries_from-reads (Some x) = reads_items semi_entry semi_entry-one semi_entry-reads (x ∷ [])
+
+pub some_entries-reads : IsReader some_entries
+unfolding some_entries
+some_entries-reads = reads_bind entry_here entries_from entry_here-reads entries_from-reads
+
+pub ruleset short_laws = (comma_name-one, comma_key_col-one, comma_val_col-one, comma_lit-one, semi_entry-one)
+
+-- ---- tables
+
+table_by-reads : (w : Option Lexeme) → IsReader (table_by w)
+table_by-reads (Some (lex.Key key.Table)) = reads_bind _ _ reads_skip (λ at. reads_bind _ _ table_type-reads (λ ty. reads_bind _ _ (sign-reads OpenBrace) (λ from. reads_bind _ _ some_entries-reads (λ es. reads_bind _ _ (sign-reads CloseBrace) (λ end. reads_give _)))))
+table_by-reads w = reads_refuse Unexpected
+
+pub table-reads : IsReader table
+unfolding table
+table-reads = reads_bind peek table_by reads_peek table_by-reads
+
+-- ---- statements
+
+some_order_by-reads : (w : Option Lexeme) → IsReader (some_order_by w)
+some_order_by-reads (Some (lex.Key key.By)) = reads_bind _ _ reads_skip (λ at. reads_bind _ _ some_names-reads (λ ns. reads_give _))
+some_order_by-reads w = reads_give None
+
+pub some_order-reads : IsReader some_order
+unfolding some_order
+some_order-reads = reads_bind peek some_order_by reads_peek some_order_by-reads
+
+-- an assignment behind its name
+assign_rest-reads : (x : AstName) → IsReader (sign Is >>= λ is. table >>= λ t. sign Semi >>= λ end. give (st.Assign x.at x t))
+assign_rest-reads x = reads_bind _ _ (sign-reads Is) (λ is. reads_bind _ _ table-reads (λ t. reads_bind _ _ (sign-reads Semi) (λ end. reads_give _)))
+
+print_rest-reads : (at : ℕ) → IsReader (name >>= λ x. some_order >>= λ by. sign Semi >>= λ end. give (st.Print at x by))
+print_rest-reads at = reads_bind _ _ name-reads (λ x. reads_bind _ _ some_order-reads (λ by. reads_bind _ _ (sign-reads Semi) (λ end. reads_give _)))
+
+statement_by-reads : (w : Option Lexeme) → IsReader (statement_by w)
+statement_by-reads (Some (lex.Name n)) = reads_bind _ _ name-reads assign_rest-reads
+statement_by-reads (Some (lex.Key key.Print)) = reads_bind _ _ reads_skip print_rest-reads
+statement_by-reads w = reads_refuse Unexpected
+
+pub statement-reads : IsReader statement
+unfolding statement
+statement-reads = reads_bind peek statement_by reads_peek statement_by-reads
+
+-- a name takes a word
+name_one : (w : Option Lexeme) (ts : Items) (x : AstName) (u : Items) → name_by w ts ≡ read_of x u → length u < length ts
+name_one (Some (lex.Name n)) ts x u e = skip_shortens _ (λ at. reads_give _) ts x u e
+name_one w ts x u e = absurd (err_ok {A = AstName} _ (x, u) e)
+
+statement_by-one : (w : Option Lexeme) (ts : Items) (x : AstStatement) (u : Items) → statement_by w ts ≡ read_of x u → length u < length ts
+unfolding name
+statement_by-one (Some (lex.Name n)) ts x u e =
+    let h = bind_ok (name ts) (λ y. sign Is >>= λ is. table >>= λ t. sign Semi >>= λ end. give (st.Assign y.at y t)) (x, u) e in
+    let f = (assign_rest-reads h.0).front h.1 x u h.3 in
+    let l = name_one (head_word ts) ts h.0 h.1 h.2 in
+    omega (arith, l, ap length f.1, length-append f.0 u)
+statement_by-one (Some (lex.Key key.Print)) ts x u e = skip_shortens _ print_rest-reads ts x u e
+statement_by-one w ts x u e = absurd (err_ok {A = AstStatement} _ (x, u) e)
+
+pub statement-one : (ts : Items) (x : AstStatement) (u : Items) → statement ts ≡ read_of x u → length u < length ts
+unfolding statement
+statement-one ts x u e = statement_by-one (head_word ts) ts x u e
+
+next_by-one : (room : Bool) (w : Option Lexeme) (ts : Items) (x : AstStatement) (u : Items) → next_by room w ts ≡ read_of (Some x) u → length u < length ts
+next_by-one room None ts x u e = absurd (none_some ts u x e)
+next_by-one true (Some w) ts x u e =
+    let h = bind_ok (statement ts) (λ y. give (Some y)) (Some x, u) e in
+    let r = rest_is (Some h.0) h.1 (Some x) u h.3 in
+    let l = statement-one ts h.0 h.1 h.2 in
+    omega (arith, l, ap length r)
+next_by-one false (Some w) ts x u e = absurd (err_ok {A = Option AstStatement} _ (Some x, u) e)
+
+pub next_statement-one : (room : Bool) → TakesOne (next_statement room)
+unfolding next_statement
+next_statement-one room = record { shorter = λ ts x u e. next_by-one room (head_word ts) ts x u e }
+
+next_by-reads : (room : Bool) (w : Option Lexeme) → IsReader (next_by room w)
+next_by-reads room None = reads_give None
+next_by-reads true (Some w) = reads_bind statement _ statement-reads (λ x. reads_give _)
+next_by-reads false (Some w) = reads_refuse (no_room w)
+
+pub next_statement-reads : (room : Bool) → IsReader (next_statement room)
+unfolding next_statement
+next_statement-reads room = reads_bind peek (next_by room) reads_peek (next_by-reads room)
+
+-- the statement behind others
+abbrev pub next_behind : ℕ → List AstStatement → Reader (Option AstStatement)
+next_behind limit xs = next_statement (nat_lt (length xs) limit)
+
+pub next_behind-one : (limit : ℕ) (xs : List AstStatement) → TakesOne (next_behind limit xs)
+next_behind-one limit xs = next_statement-one (nat_lt (length xs) limit)
+
+pub statements-reads : (limit : ℕ) (xs : List AstStatement) → IsReader (statements limit xs)
+unfolding statements
+statements-reads limit xs = reads_list (next_behind limit) (next_behind-one limit) (λ ys. next_statement-reads (nat_lt (length ys) limit)) xs
+
+pub script-reads : (limit : ℕ) → IsReader (script limit)
+unfolding script
+script-reads limit = statements-reads limit []
+
+-- ---- the loop of statements
+
+pub statements-some : (limit : ℕ) (xs : List AstStatement) (ts : Items) (x : AstStatement) (u : Items) → next_statement (nat_lt (length xs) limit) ts ≡ Ok (Some x, u) → statements limit xs ts ≡ statements limit (xs ++ x ∷ []) u
+unfolding statements
+statements-some limit xs ts x u e = list-some (next_behind limit) (next_behind-one limit) xs ts x u e
+
+pub statements-none : (limit : ℕ) (xs : List AstStatement) (ts : Items) (o : Option AstStatement) (u : Items) → next_statement (nat_lt (length xs) limit) ts ≡ Ok (o, u) → o ≡ None → statements limit xs ts ≡ Ok (xs, u)
+unfolding statements
+statements-none limit xs ts o u e n = list-none (next_behind limit) (next_behind-one limit) xs ts o u e n
+
+pub statements-fail : (limit : ℕ) (xs : List AstStatement) (ts : Items) (e : Fault) → Fails e (next_statement (nat_lt (length xs) limit) ts) → Fails e (statements limit xs ts)
+unfolding statements
+statements-fail limit xs ts e h = list-fail (next_behind limit) (next_behind-one limit) xs ts e h
+
+pub ruleset statement_laws = (next_statement-one, statements-some, statements-none, statements-fail)

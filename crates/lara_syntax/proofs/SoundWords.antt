@@ -1,0 +1,218 @@
+-- What is read is in the grammar: words and lists.
+use Rattle.std.proofs.Common.{◌≡◌, ℕ, zero, suc, ◌<◌, Bool, true, false, cond, eqb, List, [], ◌∷◌, ◌++◌, length, Option, Some, None, Ok, Err, refl, sym, ap, subst, ◌∙◌, arith, append_assoc}
+use Rattle.std.proofs.lemmas.List.{append-nil}
+use Rattle.std.proofs.lemmas.Bool.{eqb-true}
+use Rattle.lara_key.specs.declared.key.KeyType.{KeyType}
+use Rattle.lara_key.specs.declared.key.KeyType.TheVariants as key_type_of
+use Rattle.lara_semiring.specs.declared.value.ValType.{ValType}
+use Rattle.lara_semiring.specs.declared.value.ValType.TheVariants as val_type_of
+use Rattle.lara_syntax.specs.declared.item.Lexeme.{Lexeme}
+use Rattle.lara_syntax.specs.declared.item.Lexeme.TheVariants as lex
+use Rattle.lara_syntax.specs.declared.item.Keyword.TheVariants as key
+use Rattle.lara_syntax.specs.declared.item.Sign.{Sign}
+use Rattle.lara_syntax.specs.declared.item.Sign.TheVariants.{Is, Semi, Comma, Colon, OpenBracket, CloseBracket, OpenBrace, CloseBrace, Open, Close, Plus, Times, PlusPlus, Equal, NotEqual, Less, LessEqual, Greater, GreaterEqual}
+use Rattle.lara_data.specs.declared.refusal.Kind.TheVariants.{Unexpected}
+use Rattle.lara_syntax.specs.declared.ast.AstName.{AstName}
+use Rattle.lara_syntax.specs.declared.ast.AstLit.{AstLit}
+use Rattle.lara_syntax.specs.declared.ast.AstValue.TheVariants as val
+use Rattle.lara_syntax.specs.Steps.{Items, Read, Reader, onward, ◌>>=◌, give, refuse, skip, turns, turns_within, turn, behind, list_from, items_from, head_word}
+use Rattle.lara_syntax.specs.Reading as r
+use Rattle.lara_syntax.specs.Reading.{sign_number, sign, sign_by, comma_by, first_at, node}
+use Rattle.lara_syntax.specs.Grammar.{Word, word, Mark, Named, Lit, number, KeyTyped, nat, ValTyped, count, Many, none, more, CommaThen, comma_then, Commas, commas, Maybe, nothing}
+use Rattle.lara_syntax.proofs.Turns.{TakesOne, read_of, pair_is, value_is, rest_is, err_ok, none_some, list_step}
+use Rattle.lara_syntax.proofs.Readers.{bind_ok}
+
+-- ---- how a read ends
+
+pub give_to : {A : Type 0} (P : A → Items → Type 0) (x : A) (m : Items) (y : A) (u : Items) → read_of x m ≡ read_of y u → P x m → P y u
+give_to {A = A} P x m y u e h = subst (λ (p : A × Items). P p.0 p.1) (pair_is (x, m) (y, u) e) h
+
+pub some_is : {A : Type 0} (x y : A) → (let o : Option A = Some x in o) ≡ Some y → x ≡ y
+some_is x y e = cc
+
+pub read_some : {A : Type 0} (r : Read A) (x : A) (us : Items) → onward r (λ y. give (Some y)) ≡ read_of (Some x) us → r ≡ read_of x us
+read_some {A = A} (Ok (y, m)) x us e =
+    let ey : y ≡ x = some_is y x (value_is (Some y) m (Some x) us e) in
+    let em : m ≡ us = rest_is (Some y) m (Some x) us e in
+    ap (λ (z : A). read_of z m) ey ∙ ap (λ (q : Items). read_of x q) em
+read_some {A = A} (Err d) x us e = absurd (err_ok {A = Option A} d (Some x, us) e)
+
+-- a step that gives some gives not none
+pub some_none : {A : Type 0} (r : Read A) (us : Items) → onward r (λ y. give (Some y)) ≡ read_of None us → ⊥
+some_none {A = A} (Ok (y, m)) us e = none_some us m y (sym e)
+some_none {A = A} (Err d) us e = err_ok {A = Option A} d (None, us) e
+
+-- ---- one word
+
+-- the word that is taken
+pub word_taken : (w : Lexeme) (ts : Items) (at : ℕ) (u : Items) → head_word ts ≡ Some w → skip ts ≡ read_of at u → Word w at ts u
+word_taken w [] at u h e = absurd (err_ok {A = ℕ} _ (at, u) e)
+word_taken w (t ∷ ts) at u h e =
+    let same : t.lexeme ≡ w = some_is t.lexeme w h in
+    give_to (λ a q. Word w a (t ∷ ts) q) t.at ts at u e (subst (λ (l : Lexeme). Word l t.at (t ∷ ts) ts) same (word t.at t.len ts))
+
+pub sign_of : ℕ → Sign
+sign_of zero = Is
+sign_of (suc zero) = Semi
+sign_of (suc (suc zero)) = Comma
+sign_of (suc (suc (suc zero))) = Colon
+sign_of (suc (suc (suc (suc zero)))) = OpenBracket
+sign_of (suc (suc (suc (suc (suc zero))))) = CloseBracket
+sign_of (suc (suc (suc (suc (suc (suc zero)))))) = OpenBrace
+sign_of (suc (suc (suc (suc (suc (suc (suc zero))))))) = CloseBrace
+sign_of (suc (suc (suc (suc (suc (suc (suc (suc zero)))))))) = Open
+sign_of (suc (suc (suc (suc (suc (suc (suc (suc (suc zero))))))))) = Close
+sign_of (suc (suc (suc (suc (suc (suc (suc (suc (suc (suc zero)))))))))) = Plus
+sign_of (suc (suc (suc (suc (suc (suc (suc (suc (suc (suc (suc zero))))))))))) = Times
+sign_of (suc (suc (suc (suc (suc (suc (suc (suc (suc (suc (suc (suc zero)))))))))))) = PlusPlus
+sign_of (suc (suc (suc (suc (suc (suc (suc (suc (suc (suc (suc (suc (suc zero))))))))))))) = Equal
+sign_of (suc (suc (suc (suc (suc (suc (suc (suc (suc (suc (suc (suc (suc (suc zero)))))))))))))) = NotEqual
+sign_of (suc (suc (suc (suc (suc (suc (suc (suc (suc (suc (suc (suc (suc (suc (suc zero))))))))))))))) = Less
+sign_of (suc (suc (suc (suc (suc (suc (suc (suc (suc (suc (suc (suc (suc (suc (suc (suc zero)))))))))))))))) = LessEqual
+sign_of (suc (suc (suc (suc (suc (suc (suc (suc (suc (suc (suc (suc (suc (suc (suc (suc (suc zero))))))))))))))))) = Greater
+sign_of n = GreaterEqual
+
+pub sign_back : (m : Sign) → sign_of (sign_number m) ≡ m
+unfolding sign_of
+sign_back Is = refl
+sign_back Semi = refl
+sign_back Comma = refl
+sign_back Colon = refl
+sign_back OpenBracket = refl
+sign_back CloseBracket = refl
+sign_back OpenBrace = refl
+sign_back CloseBrace = refl
+sign_back Open = refl
+sign_back Close = refl
+sign_back Plus = refl
+sign_back Times = refl
+sign_back PlusPlus = refl
+sign_back Equal = refl
+sign_back NotEqual = refl
+sign_back Less = refl
+sign_back LessEqual = refl
+sign_back Greater = refl
+sign_back GreaterEqual = refl
+
+pub sign_same : (m k : Sign) → eqb (sign_number m) (sign_number k) ≡ true → k ≡ m
+sign_same m k e = sym (sym (sign_back m) ∙ ap sign_of (eqb-true _ _ e) ∙ sign_back k)
+
+pub tested : (b : Bool) (ts : Items) (x : ℕ) (u : Items) → cond b skip (refuse Unexpected) ts ≡ read_of x u → (b ≡ true) × (skip ts ≡ read_of x u)
+tested true ts x u e = (refl, e)
+tested false ts x u e = absurd (err_ok {A = ℕ} _ (x, u) e)
+
+pub sign_when : (m : Sign) (o : Option Lexeme) (ts : Items) (x : ℕ) (u : Items) → head_word ts ≡ o → sign_by m o ts ≡ read_of x u → Mark m x ts u
+sign_when m (Some (lex.Sign k)) ts x u h e =
+    let t = tested (eqb (sign_number m) (sign_number k)) ts x u e in
+    word_taken (lex.Sign m) ts x u (h ∙ ap (λ (j : Sign). Some (lex.Sign j)) (sign_same m k t.0)) t.1
+sign_when m w ts x u h e = absurd (err_ok {A = ℕ} _ (x, u) e)
+
+pub sign_sound : (m : Sign) (ts : Items) (x : ℕ) (u : Items) → sign m ts ≡ read_of x u → Mark m x ts u
+unfolding sign
+sign_sound m ts x u e = sign_when m (head_word ts) ts x u refl e
+
+abbrev pub Sound : {A : Type 0} → (A → Items → Items → Type 0) → Reader A → Type 0
+Sound {A = A} X p = (ts : Items) (x : A) (u : Items) → p ts ≡ read_of x u → X x ts u
+
+pub name_when : (o : Option Lexeme) (ts : Items) (x : AstName) (u : Items) → head_word ts ≡ o → r.name_by o ts ≡ read_of x u → Named x ts u
+name_when (Some (lex.Name n)) ts x u h e =
+    let a = bind_ok (skip ts) (λ at. give (record { name = n; at = at })) (x, u) e in
+    give_to (λ y q. Named y ts q) (record { name = n; at = a.0 }) a.1 x u a.3 (word_taken (lex.Name n) ts a.0 a.1 h a.2)
+name_when w ts x u h e = absurd (err_ok {A = AstName} _ (x, u) e)
+
+pub name_sound : Sound Named r.name
+unfolding r.name
+name_sound ts x u e = name_when (head_word ts) ts x u refl e
+
+pub lit_when : (o : Option Lexeme) (ts : Items) (x : AstLit) (u : Items) → head_word ts ≡ o → r.lit_by o ts ≡ read_of x u → Lit x ts u
+lit_when (Some (lex.Number n)) ts x u h e =
+    let a = bind_ok (skip ts) (λ at. give (record { at = at; value = val.Number n })) (x, u) e in
+    give_to (λ y q. Lit y ts q) (record { at = a.0; value = val.Number n }) a.1 x u a.3 (number a.0 n ts a.1 (word_taken (lex.Number n) ts a.0 a.1 h a.2))
+lit_when w ts x u h e = absurd (err_ok {A = AstLit} _ (x, u) e)
+
+pub lit_sound : Sound Lit r.lit
+unfolding r.lit
+lit_sound ts x u e = lit_when (head_word ts) ts x u refl e
+
+pub key_type_when : (o : Option Lexeme) (ts : Items) (x : KeyType) (u : Items) → head_word ts ≡ o → r.key_type_by o ts ≡ read_of x u → KeyTyped x ts u
+key_type_when (Some (lex.Key key.Nat)) ts x u h e =
+    let a = bind_ok (skip ts) (λ at. give key_type_of.Nat) (x, u) e in
+    give_to (λ y q. KeyTyped y ts q) key_type_of.Nat a.1 x u a.3 (nat a.0 ts a.1 (word_taken (lex.Key key.Nat) ts a.0 a.1 h a.2))
+key_type_when w ts x u h e = absurd (err_ok {A = KeyType} _ (x, u) e)
+
+pub key_type_sound : Sound KeyTyped r.key_type
+unfolding r.key_type
+key_type_sound ts x u e = key_type_when (head_word ts) ts x u refl e
+
+pub val_type_when : (o : Option Lexeme) (ts : Items) (x : ValType) (u : Items) → head_word ts ≡ o → r.val_type_by o ts ≡ read_of x u → ValTyped x ts u
+val_type_when (Some (lex.Key key.Count)) ts x u h e =
+    let a = bind_ok (skip ts) (λ at. give val_type_of.Count) (x, u) e in
+    give_to (λ y q. ValTyped y ts q) val_type_of.Count a.1 x u a.3 (count a.0 ts a.1 (word_taken (lex.Key key.Count) ts a.0 a.1 h a.2))
+val_type_when w ts x u h e = absurd (err_ok {A = ValType} _ (x, u) e)
+
+pub val_type_sound : Sound ValTyped r.val_type
+unfolding r.val_type
+val_type_sound ts x u e = val_type_when (head_word ts) ts x u refl e
+
+-- ---- lists
+
+-- where a list ends
+pub record Listed {A : Type 0} (X : A → Items → Items → Type 0) (item : List A → Reader (Option A)) (acc ys : List A) (ts rest : Items) : Type 0 where
+  pub xs : List A
+  pub all : ys ≡ acc ++ xs
+  pub end : Items
+  pub many : Many X xs ts end
+  pub ended : item ys end ≡ read_of None rest
+
+abbrev pub ListSound : {A : Type 0} → (A → Items → Items → Type 0) → (List A → Reader (Option A)) → Type 0
+ListSound {A = A} X item = (ys : List A) (ts : Items) (x : A) (us : Items) → item ys ts ≡ read_of (Some x) us → X x ts us
+
+pub listed_by : {A : Type 0} (X : A → Items → Items → Type 0) (item : List A → Reader (Option A)) (n : ℕ) → ListSound X item
+    → ((acc ys : List A) (ts rest : Items) → turns_within (list_step item) n acc ts ≡ read_of ys rest → length ts < n → Listed X item acc ys ts rest)
+    → ((ys : List A) → TakesOne (item ys))
+    → (r : Read (Option A)) (acc ys : List A) (ts rest : Items) → length ts < suc n → item acc ts ≡ r → onward (onward r (λ x. give (behind acc x))) (turn (give acc) (turns_within (list_step item) n)) ≡ read_of ys rest → Listed X item acc ys ts rest
+listed_by {A = A} X item n sound next one (Ok (None, m)) acc ys ts rest lt h e =
+    let same : acc ≡ ys = value_is acc m ys rest e in
+    record { xs = []; all = sym same ∙ sym (append-nil acc); end = ts; many = none ts; ended = ap (λ (q : List A). item q ts) (sym same) ∙ h ∙ ap (λ (q : Items). read_of None q) (rest_is acc m ys rest e) }
+listed_by X item n sound next one (Ok (Some x, m)) acc ys ts rest lt h e =
+    let shorter = (one acc).shorter ts x m h in
+    let l = next (acc ++ x ∷ []) ys m rest e (omega (arith, shorter)) in
+    record { xs = x ∷ l.xs; all = l.all ∙ append_assoc acc (x ∷ []) l.xs; end = l.end; many = more x l.xs ts m l.end (sound acc ts x m h) l.many; ended = l.ended }
+listed_by X item n sound next one (Err d) acc ys ts rest lt h e = absurd (err_ok d (ys, rest) e)
+
+pub listed_within : {A : Type 0} (X : A → Items → Items → Type 0) (item : List A → Reader (Option A)) → ListSound X item → ((ys : List A) → TakesOne (item ys)) → (n : ℕ) (acc ys : List A) (ts rest : Items) → turns_within (list_step item) n acc ts ≡ read_of ys rest → length ts < n → Listed X item acc ys ts rest
+unfolding turns_within
+listed_within X item sound one zero acc ys ts rest e lt = absurd (omega arith)
+listed_within X item sound one (suc n) acc ys ts rest e lt = listed_by X item n sound (listed_within X item sound one n) one (item acc ts) acc ys ts rest lt refl e
+
+pub listed : {A : Type 0} (X : A → Items → Items → Type 0) (item : List A → Reader (Option A)) → ListSound X item → ((ys : List A) → TakesOne (item ys)) → (acc ys : List A) (ts rest : Items) → list_from item acc ts ≡ read_of ys rest → Listed X item acc ys ts rest
+unfolding turns
+listed X item sound one acc ys ts rest e = listed_within X item sound one (suc (length ts)) acc ys ts rest e (omega arith)
+
+pub comma_when : {A : Type 0} (X : A → Items → Items → Type 0) (p : Reader A) → Sound X p → (o : Option Lexeme) (ts : Items) (x : A) (u : Items) → head_word ts ≡ o → comma_by p o ts ≡ read_of (Some x) u → CommaThen X x ts u
+comma_when X p sound (Some (lex.Sign Comma)) ts x u h e =
+    let a = bind_ok (skip ts) (λ at. p >>= λ y. give (Some y)) (Some x, u) e in
+    comma_then a.0 x ts a.1 u (word_taken (lex.Sign Comma) ts a.0 a.1 h a.2) (sound a.1 x u (read_some (p a.1) x u a.3))
+comma_when X p sound w ts x u h e = absurd (none_some ts u x e)
+
+pub comma_sound : {A : Type 0} (X : A → Items → Items → Type 0) (p : Reader A) → Sound X p → (ts : Items) (x : A) (u : Items) → r.comma_then p ts ≡ read_of (Some x) u → CommaThen X x ts u
+comma_sound X p sound ts x u e = comma_when X p sound (head_word ts) ts x u refl e
+
+pub comma_none_by : {A : Type 0} (p : Reader A) (o : Option Lexeme) (ts : Items) (u : Items) → comma_by p o ts ≡ read_of None u → ts ≡ u
+comma_none_by {A = A} p (Some (lex.Sign Comma)) ts u e =
+    let a = bind_ok (skip ts) (λ at. p >>= λ y. give (Some y)) (None, u) e in absurd (some_none (p a.1) u a.3)
+comma_none_by {A = A} p w ts u e = rest_is {A = Option A} None ts None u e
+
+pub comma_none : {A : Type 0} (p : Reader A) (ts : Items) (u : Items) → r.comma_then p ts ≡ read_of None u → ts ≡ u
+comma_none p ts u e = comma_none_by p (head_word ts) ts u e
+
+pub commas_sound : {A : Type 0} (X : A → Items → Items → Type 0) (p : Reader A) → Sound X p → TakesOne (r.comma_then p) → (ts : Items) (xs : List A) (u : Items) → (p >>= λ x. items_from (r.comma_then p) (x ∷ [])) ts ≡ read_of xs u → Commas X xs ts u
+commas_sound {A = A} X p sound one ts xs u e =
+    let a = bind_ok (p ts) (λ x. items_from (r.comma_then p) (x ∷ [])) (xs, u) e in
+    let l = listed (CommaThen X) (λ ys. r.comma_then p) (λ ys. comma_sound X p sound) (λ ys. one) (a.0 ∷ []) xs a.1 u a.3 in
+    let end : l.end ≡ u = comma_none p l.end u l.ended in
+    subst (λ (q : List A). Commas X q ts u) (sym l.all) (commas a.0 l.xs ts a.1 u (sound ts a.0 a.1 a.2) (subst (λ (q : Items). Many (CommaThen X) l.xs a.1 q) end l.many))
+
+-- nothing is read
+pub absent : {A : Type 0} (X : List A → Items → Items → Type 0) (ts : Items) (xs : List A) (u : Items) → read_of [] ts ≡ read_of xs u → Maybe X xs ts u
+absent X ts xs u e = give_to (λ ys q. Maybe X ys ts q) [] ts xs u e (nothing ts)

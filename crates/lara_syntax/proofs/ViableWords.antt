@@ -1,0 +1,223 @@
+-- What stands before a refused word can go on: words, and lists of what ends by itself.
+use Rattle.std.proofs.Common.{◌≡◌, ◌<◌, ℕ, List, [], ◌∷◌, length, Option, Some, None, Err, refl, sym, ap, ◌∙◌, arith, Bool, true, false, cond, eqb}
+use Rattle.lara_syntax.specs.declared.item.Item.{Item}
+use Rattle.lara_syntax.specs.declared.item.Lexeme.{Lexeme}
+use Rattle.lara_syntax.specs.declared.item.Lexeme.TheVariants as lex
+use Rattle.lara_syntax.specs.declared.item.Keyword.TheVariants as key
+use Rattle.lara_syntax.specs.declared.item.Sign.{Sign}
+use Rattle.lara_syntax.specs.declared.item.Sign.TheVariants.{Semi, Comma}
+use Rattle.lara_data.specs.declared.refusal.Kind.TheVariants.{Unexpected}
+use Rattle.lara_syntax.specs.declared.fault.Stop.{Stop}
+use Rattle.lara_key.specs.declared.key.KeyType.TheVariants as key_type_of
+use Rattle.lara_semiring.specs.declared.value.ValType.TheVariants as val_type_of
+use Rattle.lara_syntax.specs.declared.ast.AstValue.TheVariants as val
+use Rattle.lara_syntax.specs.declared.item.Keyword.{Keyword}
+use Rattle.lara_syntax.specs.Scripts.{IsSpelled}
+use Rattle.lara_syntax.specs.WordTexts.{keyword_text, sign_text}
+use Rattle.lara_syntax.specs.Steps.{Items, Read, Reader, ◌>>=◌, give, refuse, peek, skip, items_from, head_word}
+use Rattle.lara_syntax.specs.Reading as r
+use Rattle.lara_syntax.specs.Reading.{sign, sign_by, sign_number, node, first_at}
+use Rattle.lara_syntax.specs.Grammar.{Word, word}
+use Rattle.lara_syntax.proofs.Turns.{read_of, erred, value_is, err_ok}
+use Rattle.lara_syntax.proofs.Readers.{IsReader, reads_bind, reads_give, reads_skip, reads_items, skip_ok, ok_err, bind_ok, longer, skip_shortens}
+use Rattle.lara_syntax.proofs.RuleReaders.{comma-reads, comma-one}
+use Rattle.lara_syntax.proofs.Complete.{head_is, sign_reads, NoComma, no_comma}
+use Rattle.lara_syntax.proofs.SoundWords.{sign_sound, name_sound}
+use Rattle.lara_syntax.proofs.Viable.{Goes, IsViable, IsCase, Quiet, Starts, case_viable, case_refuse, viable_bind, viable_give, viable_choice}
+use Rattle.lara_syntax.proofs.ViableLoop.{Keeps, IsItem, viable_list, keeps_viable, keeps_none, keeps_choice, viable_item}
+
+-- ---- what may follow
+
+abbrev pub any : Option Lexeme → Type 0
+any w = Unit {0}
+
+-- the sign m
+abbrev pub next_is : Sign → Option Lexeme → Type 0
+next_is m w = w ≡ Some (lex.Sign m)
+
+-- the end of the script
+abbrev pub at_end : Option Lexeme → Type 0
+at_end None = Unit {0}
+at_end (Some w) = ⊥
+
+-- a word of no place
+abbrev pub token : Lexeme → Item
+token w = record { at = 0; len = 0; lexeme = w }
+
+-- ---- words that can be written
+
+pub sign_spelled : (m : Sign) → IsSpelled (lex.Sign m)
+sign_spelled m = (sign_text m, refl)
+
+pub key_spelled : (k : Keyword) → IsSpelled (lex.Key k)
+key_spelled k = (keyword_text k, refl)
+
+-- `a`
+abbrev pub a_name : List ℕ
+a_name = 97 ∷ []
+
+pub name_spelled : IsSpelled (lex.Name a_name)
+unfolding Rattle.lara_base.specs.Names.is_name Rattle.lara_base.specs.Names.starts_name Rattle.lara_base.specs.Names.is_keyword Rattle.lara_base.specs.Names.goes_on
+name_spelled = (a_name, (refl, refl))
+
+-- `0`
+pub number_spelled : IsSpelled (lex.Number 0)
+number_spelled = (48 ∷ [], (record { some = λ e. absurd cc; digits = refl; value = refl }, omega arith))
+
+-- ---- one word
+
+pub skip_goes : (ts : Items) (d : Stop) → skip ts ≡ erred d → Goes any skip ts d
+skip_goes [] d e = let s : record { left = 0; kind = Unexpected } ≡ d = cc in record { before = []; bad = []; parts = refl; place = sym (ap (λ (t : Stop). t.left) s); more = token (lex.Sign Semi) ∷ []; spelled = (sign_spelled Semi, tt); x = 0; on = λ v after. refl }
+skip_goes (t ∷ ts) d e = absurd (ok_err t.at ts d e)
+
+pub viable_skip : (F : Option Lexeme → Type 0) → IsViable F skip
+viable_skip F = record {
+  stays = λ before u v x e after. skip_ok before u v x e;
+  word = token (lex.Sign Semi) ∷ [];
+  spelled = (sign_spelled Semi, tt);
+  value = 0;
+  says = λ v after. refl;
+  goes = λ ts d e. let g = skip_goes ts d e in record { before = g.before; bad = g.bad; parts = g.parts; place = g.place; more = g.more; spelled = g.spelled; x = g.x; on = λ v after. g.on v tt };
+}
+
+-- what is behind a word, once it is taken
+pub viable_behind : {A : Type 0} (F : Option Lexeme → Type 0) (f : ℕ → Reader A) → ((at : ℕ) → IsReader (f at)) → ((at : ℕ) → IsViable F (f at)) → IsViable F (skip >>= f)
+viable_behind F f reads viable = viable_bind F any skip f reads_skip reads (viable_skip any) viable (λ at ts y v e a. tt)
+
+abbrev pub Takes : {A : Type 0} → Reader A → Type 0
+Takes {A = A} p = (ts : Items) (x : A) (u : Items) → p ts ≡ read_of x u → length u < length ts
+
+pub quiet_takes : {A : Type 0} (F : Option Lexeme → Type 0) (p : Reader A) → Takes p → Quiet F p
+quiet_takes F p takes u v x e after = absurd (omega (arith, takes u x u e))
+
+pub refuse_takes : {A : Type 0} (ts : Items) (x : A) (u : Items) → (let r : Read A = Err (record { left = length ts; kind = Unexpected }) in r) ≡ read_of x u → length u < length ts
+refuse_takes {A = A} ts x u e = absurd (err_ok {A = A} _ (x, u) e)
+
+pub word_shorter : (w : Lexeme) (at : ℕ) (ts u : Items) → Word w at ts u → length u < length ts
+word_shorter w at ts u (word a n q) = omega arith
+
+pub case_cond : {A : Type 0} (F : Option Lexeme → Type 0) (b : Bool) (p q : Reader A) → IsCase F p → IsCase F q → IsCase F (cond b p q)
+case_cond F true p q cp cq = cp
+case_cond F false p q cp cq = cq
+
+pub sign_cases : (F : Option Lexeme → Type 0) (m : Sign) (w : Option Lexeme) → IsCase F (sign_by m w)
+sign_cases F m (Some (lex.Sign k)) = case_cond F (eqb (sign_number m) (sign_number k)) skip (refuse Unexpected) (case_viable F skip (viable_skip F)) (case_refuse F Unexpected)
+sign_cases F m w = case_refuse F Unexpected
+
+pub sign_takes : (m : Sign) → Takes (sign m)
+sign_takes m ts x u e = word_shorter (lex.Sign m) x ts u (sign_sound m ts x u e)
+
+pub sign_viable : (F : Option Lexeme → Type 0) (m : Sign) → IsViable F (sign m)
+unfolding sign
+sign_viable F m = viable_choice F (sign_by m) (sign_cases F m) (quiet_takes F (sign m) (sign_takes m)) (token (lex.Sign m) ∷ []) (sign_spelled m, tt) 0 (λ v after. sign_reads m 0 (token (lex.Sign m) ∷ v) v (word 0 0 v))
+
+-- what begins with the sign m
+pub sign_starts : {B : Type 0} (F : Option Lexeme → Type 0) (m : Sign) (f : ℕ → Reader B) → Starts F (next_is m) (sign m >>= f)
+sign_starts F m f ts y v e after = let a = bind_ok (sign m ts) f (y, v) e in head_is (lex.Sign m) a.0 ts a.1 (sign_sound m ts a.0 a.1 a.2)
+
+pub name_cases : (F : Option Lexeme → Type 0) (w : Option Lexeme) → IsCase F (r.name_by w)
+name_cases F (Some (lex.Name n)) = case_viable F _ (viable_behind F (λ at. give (record { name = n; at = at })) (λ at. reads_give _) (λ at. viable_give F _))
+name_cases F w = case_refuse F Unexpected
+
+pub name_takes : Takes r.name
+name_takes ts x u e = word_shorter (lex.Name x.name) x.at ts u (name_sound ts x u e)
+
+pub name_viable : (F : Option Lexeme → Type 0) → IsViable F r.name
+unfolding r.name
+name_viable F = viable_choice F r.name_by (name_cases F) (quiet_takes F r.name name_takes) (token (lex.Name a_name) ∷ []) (name_spelled, tt) (record { name = a_name; at = 0 }) (λ v after. refl)
+
+pub key_type_cases : (F : Option Lexeme → Type 0) (w : Option Lexeme) → IsCase F (r.key_type_by w)
+key_type_cases F (Some (lex.Key key.Nat)) = case_viable F _ (viable_behind F (λ at. give key_type_of.Nat) (λ at. reads_give _) (λ at. viable_give F _))
+key_type_cases F w = case_refuse F Unexpected
+
+pub key_type_by_takes : (w : Option Lexeme) → Takes (r.key_type_by w)
+key_type_by_takes (Some (lex.Key key.Nat)) ts x u e = skip_shortens (λ at. give key_type_of.Nat) (λ at. reads_give _) ts x u e
+key_type_by_takes w ts x u e = refuse_takes ts x u e
+
+pub key_type_viable : (F : Option Lexeme → Type 0) → IsViable F r.key_type
+unfolding r.key_type
+key_type_viable F = viable_choice F r.key_type_by (key_type_cases F) (quiet_takes F r.key_type (λ ts x u e. key_type_by_takes (head_word ts) ts x u e)) (token (lex.Key key.Nat) ∷ []) (key_spelled key.Nat, tt) key_type_of.Nat (λ v after. refl)
+
+pub val_type_cases : (F : Option Lexeme → Type 0) (w : Option Lexeme) → IsCase F (r.val_type_by w)
+val_type_cases F (Some (lex.Key key.Count)) = case_viable F _ (viable_behind F (λ at. give val_type_of.Count) (λ at. reads_give _) (λ at. viable_give F _))
+val_type_cases F w = case_refuse F Unexpected
+
+pub val_type_by_takes : (w : Option Lexeme) → Takes (r.val_type_by w)
+val_type_by_takes (Some (lex.Key key.Count)) ts x u e = skip_shortens (λ at. give val_type_of.Count) (λ at. reads_give _) ts x u e
+val_type_by_takes w ts x u e = refuse_takes ts x u e
+
+pub val_type_viable : (F : Option Lexeme → Type 0) → IsViable F r.val_type
+unfolding r.val_type
+val_type_viable F = viable_choice F r.val_type_by (val_type_cases F) (quiet_takes F r.val_type (λ ts x u e. val_type_by_takes (head_word ts) ts x u e)) (token (lex.Key key.Count) ∷ []) (key_spelled key.Count, tt) val_type_of.Count (λ v after. refl)
+
+pub lit_cases : (F : Option Lexeme → Type 0) (w : Option Lexeme) → IsCase F (r.lit_by w)
+lit_cases F (Some (lex.Number n)) = case_viable F _ (viable_behind F (λ at. give (record { at = at; value = val.Number n })) (λ at. reads_give _) (λ at. viable_give F _))
+lit_cases F w = case_refuse F Unexpected
+
+pub lit_by_takes : (w : Option Lexeme) → Takes (r.lit_by w)
+lit_by_takes (Some (lex.Number n)) ts x u e = skip_shortens (λ at. give (record { at = at; value = val.Number n })) (λ at. reads_give _) ts x u e
+lit_by_takes w ts x u e = refuse_takes ts x u e
+
+pub lit_takes : Takes r.lit
+unfolding r.lit
+lit_takes ts x u e = lit_by_takes (head_word ts) ts x u e
+
+pub lit_viable : (F : Option Lexeme → Type 0) → IsViable F r.lit
+unfolding r.lit
+lit_viable F = viable_choice F r.lit_by (lit_cases F) (quiet_takes F r.lit lit_takes) (token (lex.Number 0) ∷ []) (number_spelled, tt) (record { at = 0; value = val.Number 0 }) (λ v after. refl)
+
+-- two steps of which the first, or the second, takes a word
+pub first_takes : {A B : Type 0} (p : Reader A) (f : A → Reader B) → Takes p → ((x : A) → IsReader (f x)) → Takes (p >>= f)
+first_takes p f takes reads ts y u e =
+    let a = bind_ok (p ts) f (y, u) e in
+    let b = (reads a.0).front a.1 y u a.3 in
+    omega (arith, takes ts a.0 a.1 a.2, longer a.1 b.0 u b.1)
+
+pub second_takes : {A B : Type 0} (p : Reader A) (f : A → Reader B) → IsReader p → ((x : A) → Takes (f x)) → Takes (p >>= f)
+second_takes p f reads takes ts y u e =
+    let a = bind_ok (p ts) f (y, u) e in
+    let b = reads.front ts a.0 a.1 a.2 in
+    omega (arith, takes a.0 a.1 y u a.3, longer ts b.0 a.1 b.1)
+
+-- ---- lists
+
+-- "," X behind its comma
+pub comma_rest_viable : {A : Type 0} (F : Option Lexeme → Type 0) (p : Reader A) → IsReader p → IsViable any p → (at : ℕ) → IsViable F (p >>= λ x. give (Some x))
+comma_rest_viable F p ip vp at = viable_bind F any p (λ x. give (Some x)) ip (λ x. reads_give _) vp (λ x. viable_give F _) (λ x ts y v e a. tt)
+
+pub comma_behind_viable : {A : Type 0} (F : Option Lexeme → Type 0) (p : Reader A) → IsReader p → IsViable any p → IsViable F (skip >>= λ at. p >>= λ x. give (Some x))
+comma_behind_viable F p ip vp = viable_behind F (λ at. p >>= λ x. give (Some x)) (λ at. reads_bind p (λ x. give (Some x)) ip (λ x. reads_give _)) (comma_rest_viable F p ip vp)
+
+pub comma_cases : {A : Type 0} (F : Option Lexeme → Type 0) (p : Reader A) → IsReader p → IsViable any p → (w : Option Lexeme) → IsCase F (r.comma_by p w)
+comma_cases F p ip vp (Some (lex.Sign Comma)) = case_viable F _ (comma_behind_viable F p ip vp)
+comma_cases F p ip vp w = case_viable F (give None) (viable_give F None)
+
+pub comma_keeps : {A : Type 0} (p : Reader A) → IsReader p → IsViable any p → (w : Option Lexeme) → Keeps any (r.comma_by p w)
+comma_keeps p ip vp (Some (lex.Sign Comma)) = keeps_viable any _ (comma_behind_viable any p ip vp)
+comma_keeps p ip vp w = keeps_none any
+
+pub comma_item : {A : Type 0} (F : Option Lexeme → Type 0) → ((w : Option Lexeme) → F w → NoComma w) → (p : Reader A) → IsReader p → IsViable any p → IsItem F any (λ (ys : List A). r.comma_then p)
+comma_item F not_comma p ip vp = record {
+  one = λ ys. comma-one p ip;
+  reader = λ ys. comma-reads p ip;
+  ends = λ ys v after. no_comma p v (not_comma (head_word v) after);
+  rests = λ ys ts u e after. tt;
+  begins = λ ys ts x u e. tt;
+  wide = λ w after. tt;
+  keeps = λ ys. keeps_choice any (r.comma_by p) (comma-one p ip) (comma_keeps p ip vp);
+  viable = λ ys. viable_item F (r.comma_by p) (comma-one p ip) (λ v after. no_comma p v (not_comma (head_word v) after)) (comma_cases F p ip vp);
+}
+
+-- X { "," X }
+pub commas_viable : {A : Type 0} (F : Option Lexeme → Type 0) → ((w : Option Lexeme) → F w → NoComma w) → (p : Reader A) → IsReader p → IsViable any p → IsViable F (p >>= λ x. items_from (r.comma_then p) (x ∷ []))
+commas_viable F not_comma p ip vp = viable_bind F any p (λ x. items_from (r.comma_then p) (x ∷ [])) ip (λ x. reads_items (r.comma_then p) (comma-one p ip) (comma-reads p ip) (x ∷ [])) vp (λ x. viable_list F any (λ ys. r.comma_then p) (comma_item F not_comma p ip vp) (x ∷ [])) (λ x ts y v e a. tt)
+
+-- what is empty where it takes no word
+pub quiet_list : {A : Type 0} (F : Option Lexeme → Type 0) (by : Option Lexeme → Reader (List A)) → ((u : Items) (xs : List A) → by (head_word u) u ≡ read_of xs u → xs ≡ []) → ((v : Items) → F (head_word v) → by (head_word v) v ≡ read_of [] v) → Quiet F (peek >>= by)
+quiet_list {A = A} F by empty ends u v xs e after = ends v after ∙ ap (λ (q : List A). read_of q v) (sym (empty u xs e))
+
+pub no_list : {A : Type 0} (p : Reader (List A)) → Takes p → (u : Items) (xs : List A) → p u ≡ read_of xs u → xs ≡ []
+no_list p takes u xs e = absurd (omega (arith, takes u xs u e))
+
+pub empty_list : {A : Type 0} (u : Items) (xs : List A) → read_of [] u ≡ read_of xs u → xs ≡ []
+empty_list {A = A} u xs e = sym (value_is {A = List A} [] u xs u e)

@@ -1,0 +1,143 @@
+-- The grammar: which words stand for which tree. `X x ts rest` says that ts is x, and behind it rest.
+use Rattle.std.specs.Prelude.{◌≤◌, ℕ, List, [], ◌∷◌, length, Option, Some, None}
+use Rattle.lara_key.specs.declared.key.KeyType.{KeyType}
+use Rattle.lara_key.specs.declared.key.KeyType.TheVariants as key_type_of
+use Rattle.lara_semiring.specs.declared.value.ValType.{ValType}
+use Rattle.lara_semiring.specs.declared.value.ValType.TheVariants as val_type_of
+use Rattle.lara_syntax.specs.declared.item.Lexeme.{Lexeme}
+use Rattle.lara_syntax.specs.declared.item.Lexeme.TheVariants as lex
+use Rattle.lara_syntax.specs.declared.item.Keyword.{Keyword}
+use Rattle.lara_syntax.specs.declared.item.Keyword.TheVariants as key
+use Rattle.lara_syntax.specs.declared.item.Sign.{Sign}
+use Rattle.lara_syntax.specs.declared.item.Sign.TheVariants.{Is, Semi, Comma, Colon, OpenBracket, CloseBracket, OpenBrace, CloseBrace}
+use Rattle.lara_syntax.specs.declared.ast.AstName.{AstName}
+use Rattle.lara_syntax.specs.declared.ast.AstBy.{AstBy}
+use Rattle.lara_syntax.specs.declared.ast.AstKeyCol.{AstKeyCol}
+use Rattle.lara_syntax.specs.declared.ast.AstValCol.{AstValCol}
+use Rattle.lara_syntax.specs.AstTypes.{AstColumns}
+use Rattle.lara_syntax.specs.declared.ast.AstLit.{AstLit}
+use Rattle.lara_syntax.specs.declared.ast.AstValue.TheVariants as val
+use Rattle.lara_syntax.specs.declared.ast.AstEntry.{AstEntry}
+use Rattle.lara_syntax.specs.declared.ast.AstNode.{AstNode}
+use Rattle.lara_syntax.specs.declared.ast.AstOp.TheVariants as op
+use Rattle.lara_syntax.specs.declared.ast.AstStatement.{AstStatement}
+use Rattle.lara_syntax.specs.declared.ast.AstStatement.TheVariants as st
+use Rattle.lara_syntax.specs.Steps.{Items}
+use Rattle.lara_syntax.specs.Reading.{node, first_at}
+
+-- ---- one word
+
+-- the word w, at a place
+pub data Word (w : Lexeme) : ℕ → Items → Items → Type 0 where
+  word : (at len : ℕ) (rest : Items) → Word w at (record { at = at; len = len; lexeme = w } ∷ rest) rest
+
+abbrev pub Mark : Sign → ℕ → Items → Items → Type 0
+Mark m = Word (lex.Sign m)
+
+abbrev pub Key : Keyword → ℕ → Items → Items → Type 0
+Key k = Word (lex.Key k)
+
+-- NAME
+abbrev pub Named : AstName → Items → Items → Type 0
+Named x = Word (lex.Name x.name) x.at
+
+-- lit = NUMBER
+pub data Lit : AstLit → Items → Items → Type 0 where
+  number : (at n : ℕ) (ts rest : Items) → Word (lex.Number n) at ts rest → Lit (record { at = at; value = val.Number n }) ts rest
+
+-- the type of a key column
+pub data KeyTyped : KeyType → Items → Items → Type 0 where
+  nat : (at : ℕ) (ts rest : Items) → Key key.Nat at ts rest → KeyTyped key_type_of.Nat ts rest
+
+-- the type of a value column
+pub data ValTyped : ValType → Items → Items → Type 0 where
+  count : (at : ℕ) (ts rest : Items) → Key key.Count at ts rest → ValTyped val_type_of.Count ts rest
+
+-- ---- lists
+
+-- { X }
+pub data Many {A : Type 0} (X : A → Items → Items → Type 0) : List A → Items → Items → Type 0 where
+  none : (rest : Items) → Many X [] rest rest
+  more : (x : A) (xs : List A) (ts us rest : Items) → X x ts us → Many X xs us rest → Many X (x ∷ xs) ts rest
+
+-- "," X
+pub data CommaThen {A : Type 0} (X : A → Items → Items → Type 0) : A → Items → Items → Type 0 where
+  comma_then : (at : ℕ) (x : A) (ts us rest : Items) → Mark Comma at ts us → X x us rest → CommaThen X x ts rest
+
+-- X { "," X }
+pub data Commas {A : Type 0} (X : A → Items → Items → Type 0) : List A → Items → Items → Type 0 where
+  commas : (x : A) (xs : List A) (ts us rest : Items) → X x ts us → Many (CommaThen X) xs us rest → Commas X (x ∷ xs) ts rest
+
+-- [ X ]
+pub data Maybe {A : Type 0} (X : List A → Items → Items → Type 0) : List A → Items → Items → Type 0 where
+  nothing : (rest : Items) → Maybe X [] rest rest
+  just : (xs : List A) (ts rest : Items) → X xs ts rest → Maybe X xs ts rest
+
+-- ---- columns
+
+-- key_col = NAME ":" "nat"
+pub data KeyCol : AstKeyCol → Items → Items → Type 0 where
+  key_col : (c : ℕ) (x : AstName) (t : KeyType) (ts us vs rest : Items)
+      → Named x ts us → Mark Colon c us vs → KeyTyped t vs rest
+      → KeyCol (record { name = x; ty = t }) ts rest
+
+-- val_col = NAME ":" "count"
+pub data ValCol : AstValCol → Items → Items → Type 0 where
+  val_col : (c : ℕ) (x : AstName) (t : ValType) (ts us vs rest : Items)
+      → Named x ts us → Mark Colon c us vs → ValTyped t vs rest
+      → ValCol (record { name = x; ty = t }) ts rest
+
+-- type = "[" [ key_col { "," key_col } ] ":" val_col { "," val_col } "]"
+pub data TypeOf : AstColumns → Items → Items → Type 0 where
+  columns : (a b c : ℕ) (ks : List AstKeyCol) (vs : List AstValCol) (t1 t2 t3 t4 t5 rest : Items)
+      → Mark OpenBracket a t1 t2 → Maybe (Commas KeyCol) ks t2 t3 → Mark Colon b t3 t4 → Commas ValCol vs t4 t5 → Mark CloseBracket c t5 rest
+      → TypeOf (record { keys = ks; vals = vs }) t1 rest
+
+-- ---- entries
+
+-- entry = [ lit { "," lit } ] ":" lit { "," lit }
+pub data Entry : AstEntry → Items → Items → Type 0 where
+  entry : (c : ℕ) (ks row : List AstLit) (ts us vs rest : Items)
+      → Maybe (Commas Lit) ks ts us → Mark Colon c us vs → Commas Lit row vs rest
+      → Entry (record { at = first_at ks c; key = ks; row = row }) ts rest
+
+-- ";" entry
+pub data SemiEntry : AstEntry → Items → Items → Type 0 where
+  semi_entry : (c : ℕ) (e : AstEntry) (ts us rest : Items) → Mark Semi c ts us → Entry e us rest → SemiEntry e ts rest
+
+-- [ ";" ]
+pub data SomeSemi : Items → Items → Type 0 where
+  no_semi : (rest : Items) → SomeSemi rest rest
+  semi : (c : ℕ) (ts rest : Items) → Mark Semi c ts rest → SomeSemi ts rest
+
+-- entries = entry { ";" entry } [ ";" ]
+pub data Entries : List AstEntry → Items → Items → Type 0 where
+  entries : (e : AstEntry) (es : List AstEntry) (ts us vs rest : Items) → Entry e ts us → Many SemiEntry es us vs → SomeSemi vs rest → Entries (e ∷ es) ts rest
+
+-- ---- tables
+
+-- table = "table" type "{" [ entries ] "}"
+pub data Table : AstNode → Items → Items → Type 0 where
+  literal : (at a b : ℕ) (ty : AstColumns) (es : List AstEntry) (t1 t2 t3 t4 t5 rest : Items)
+      → Key key.Table at t1 t2 → TypeOf ty t2 t3 → Mark OpenBrace a t3 t4 → Maybe Entries es t4 t5 → Mark CloseBrace b t5 rest
+      → Table (node at (op.Literal ty es)) t1 rest
+
+-- ---- statements
+
+-- [ "by" [ names ] ], names = NAME { "," NAME }
+pub data SomeOrder : Option AstBy → Items → Items → Type 0 where
+  no_order : (rest : Items) → SomeOrder None rest rest
+  order : (at : ℕ) (ns : List AstName) (ts us rest : Items) → Key key.By at ts us → Maybe (Commas Named) ns us rest → SomeOrder (Some (record { at = at; names = ns })) ts rest
+
+-- statement = NAME "=" table ";" | "print" NAME [ "by" [ names ] ] ";"
+pub data Statement : AstStatement → Items → Items → Type 0 where
+  assign : (a b : ℕ) (x : AstName) (t : AstNode) (t1 t2 t3 t4 rest : Items)
+      → Named x t1 t2 → Mark Is a t2 t3 → Table t t3 t4 → Mark Semi b t4 rest
+      → Statement (st.Assign x.at x t) t1 rest
+  print : (at b : ℕ) (x : AstName) (by : Option AstBy) (t1 t2 t3 t4 rest : Items)
+      → Key key.Print at t1 t2 → Named x t2 t3 → SomeOrder by t3 t4 → Mark Semi b t4 rest
+      → Statement (st.Print at x by) t1 rest
+
+-- script = { statement }, at most so many
+abbrev pub Script : ℕ → List AstStatement → Items → Type 0
+Script limit xs ts = Many Statement xs ts [] × (length xs ≤ limit)

@@ -1,0 +1,57 @@
+-- What bytes stand for as a script.
+use Rattle.std.specs.Prelude.{◌≡◌, ◌-◌, ℕ, zero, suc, List, length, Option, Some, None, Result, Ok, Err, slice_get}
+use Rattle.lara_syntax.specs.declared.ast.Ast.{Ast}
+use Rattle.lara_syntax.specs.declared.ast.AstStatement.{AstStatement}
+use Rattle.lara_syntax.specs.declared.item.Item.{Item}
+use Rattle.lara_syntax.specs.declared.fault.Stop.{Stop}
+use Rattle.lara_data.specs.declared.refusal.Refusal.{Refusal}
+use Rattle.lara_data.specs.declared.refusal.ReadFault.{ReadFault}
+use Rattle.lara_data.specs.declared.refusal.ReadFault.TheVariants.{Refused, Memory}
+use Rattle.lara_syntax.specs.Steps.{Items, Read}
+use Rattle.lara_syntax.specs.Reading.{script}
+use Rattle.lara_syntax.specs.Tokens.{items_of, stop_of}
+
+-- the value of a read, without the words after it
+abbrev pub read_value : {A : Type 0} → Read A → Result A Stop
+read_value (Ok x) = Ok x.0
+read_value (Err e) = Err e
+
+-- the place of a word, or that of the end
+abbrev pub at_or : ℕ → Option Item → ℕ
+at_or size None = size
+at_or size (Some item) = item.at
+
+-- the place of the word from which so many are left; size is that of the end
+abbrev pub place_of : ℕ → Items → ℕ → ℕ
+place_of size ts left = at_or size (slice_get ts (length ts - left))
+
+abbrev pub refusal_of : ℕ → Items → Stop → Refusal
+refusal_of size ts stop = record { at = place_of size ts stop.left; kind = stop.kind }
+
+-- at the end of the words, what is no token comes first
+abbrev pub at_end_of : ℕ → Option Refusal → Refusal → Refusal
+at_end_of (suc left) token refusal = refusal
+at_end_of zero (Some token) refusal = token
+at_end_of zero None refusal = refusal
+
+abbrev pub accepted : Option Refusal → List AstStatement → Result Ast Refusal
+accepted (Some token) xs = Err token
+accepted None xs = Ok (record { statements = xs })
+
+-- what the words give, where the tokens stop so
+abbrev pub answered : ℕ → Items → Option Refusal → Result (List AstStatement) Stop → Result Ast Refusal
+answered size ts token (Ok xs) = accepted token xs
+answered size ts token (Err stop) = Err (at_end_of stop.left token (refusal_of size ts stop))
+
+-- the tree of a script, or its first refusal
+unfoldable pub parsed : List ℕ → Result Ast Refusal
+parsed bytes = answered (length bytes) (items_of bytes) (stop_of bytes) (read_value (script 256 (items_of bytes)))
+
+abbrev pub FaultGives : ReadFault → Result Ast Refusal → Type 0
+FaultGives (Refused refusal) read = read ≡ Err refusal
+FaultGives Memory read = Unit {0}
+
+-- what was returned is what the bytes stand for, unless memory ran out
+abbrev pub ParseGives : Result Ast ReadFault → Result Ast Refusal → Type 0
+ParseGives (Ok ast) read = read ≡ Ok ast
+ParseGives (Err fault) read = FaultGives fault read

@@ -1,0 +1,316 @@
+-- Reading from left to right: each rule of the grammar by the word that is next.
+use Rattle.std.specs.Prelude.{ℕ, Bool, true, false, nat_lt, List, [], ◌∷◌, length, Option, Some, None, ◌==◌, if◌then◌else◌}
+use Rattle.lara_key.specs.declared.key.KeyType.{KeyType}
+use Rattle.lara_key.specs.declared.key.KeyType.TheVariants as key_type_of
+use Rattle.lara_semiring.specs.declared.value.ValType.{ValType}
+use Rattle.lara_semiring.specs.declared.value.ValType.TheVariants as val_type_of
+use Rattle.lara_syntax.specs.declared.item.Lexeme.{Lexeme}
+use Rattle.lara_syntax.specs.declared.item.Lexeme.TheVariants as lex
+use Rattle.lara_syntax.specs.declared.item.Keyword.TheVariants as key
+use Rattle.lara_syntax.specs.declared.item.Sign.{Sign}
+use Rattle.lara_syntax.specs.declared.item.Sign.TheVariants.{Is, Semi, Comma, Colon, OpenBracket, CloseBracket, OpenBrace, CloseBrace, Open, Close, Plus, Times, PlusPlus, Equal, NotEqual, Less, LessEqual, Greater, GreaterEqual}
+use Rattle.lara_data.specs.declared.refusal.Kind.{Kind}
+use Rattle.lara_data.specs.declared.refusal.Kind.TheVariants.{Unexpected, TooMany}
+use Rattle.lara_syntax.specs.declared.ast.AstName.{AstName}
+use Rattle.lara_syntax.specs.declared.ast.AstBy.{AstBy}
+use Rattle.lara_syntax.specs.declared.ast.AstKeyCol.{AstKeyCol}
+use Rattle.lara_syntax.specs.declared.ast.AstValCol.{AstValCol}
+use Rattle.lara_syntax.specs.AstTypes.{AstColumns}
+use Rattle.lara_syntax.specs.declared.ast.AstLit.{AstLit}
+use Rattle.lara_syntax.specs.declared.ast.AstValue.TheVariants as val
+use Rattle.lara_syntax.specs.declared.ast.AstEntry.{AstEntry}
+use Rattle.lara_syntax.specs.declared.ast.AstNode.{AstNode}
+use Rattle.lara_syntax.specs.declared.ast.AstOp.{AstOp}
+use Rattle.lara_syntax.specs.declared.ast.AstOp.TheVariants as op
+use Rattle.lara_syntax.specs.declared.ast.AstStatement.{AstStatement}
+use Rattle.lara_syntax.specs.declared.ast.AstStatement.TheVariants as st
+use Rattle.lara_syntax.specs.Steps.{Reader, ◌>>=◌, give, refuse, peek, skip, items_from, list_from}
+
+-- ---- one word
+
+abbrev pub sign_number : Sign → ℕ
+sign_number Is = 0
+sign_number Semi = 1
+sign_number Comma = 2
+sign_number Colon = 3
+sign_number OpenBracket = 4
+sign_number CloseBracket = 5
+sign_number OpenBrace = 6
+sign_number CloseBrace = 7
+sign_number Open = 8
+sign_number Close = 9
+sign_number Plus = 10
+sign_number Times = 11
+sign_number PlusPlus = 12
+sign_number Equal = 13
+sign_number NotEqual = 14
+sign_number Less = 15
+sign_number LessEqual = 16
+sign_number Greater = 17
+sign_number GreaterEqual = 18
+
+abbrev pub sign_by : Sign → Option Lexeme → Reader ℕ
+sign_by m (Some (lex.Sign k)) = if sign_number m == sign_number k then skip else refuse Unexpected
+sign_by m w = refuse Unexpected
+
+unfoldable pub sign : Sign → Reader ℕ
+sign m = peek >>= sign_by m
+
+abbrev pub name_by : Option Lexeme → Reader AstName
+name_by (Some (lex.Name n)) = do
+  at ← skip
+  give (record { name = n; at = at })
+name_by w = refuse Unexpected
+
+unfoldable pub name : Reader AstName
+name = peek >>= name_by
+
+-- the type of a key column
+abbrev pub key_type_by : Option Lexeme → Reader KeyType
+key_type_by (Some (lex.Key key.Nat)) = do
+  at ← skip
+  give key_type_of.Nat
+key_type_by w = refuse Unexpected
+
+unfoldable pub key_type : Reader KeyType
+key_type = peek >>= key_type_by
+
+-- the type of a value column
+abbrev pub val_type_by : Option Lexeme → Reader ValType
+val_type_by (Some (lex.Key key.Count)) = do
+  at ← skip
+  give val_type_of.Count
+val_type_by w = refuse Unexpected
+
+unfoldable pub val_type : Reader ValType
+val_type = peek >>= val_type_by
+
+-- lit = NUMBER
+abbrev pub lit_by : Option Lexeme → Reader AstLit
+lit_by (Some (lex.Number n)) = do
+  at ← skip
+  give (record { at = at; value = val.Number n })
+lit_by w = refuse Unexpected
+
+unfoldable pub lit : Reader AstLit
+lit = peek >>= lit_by
+
+-- ---- lists
+
+abbrev pub comma_by : {A : Type 0} → Reader A → Option Lexeme → Reader (Option A)
+comma_by p (Some (lex.Sign Comma)) = do
+  at ← skip
+  x ← p
+  give (Some x)
+comma_by p w = give None
+
+-- [ "," X ]
+abbrev pub comma_then : {A : Type 0} → Reader A → Reader (Option A)
+comma_then p = peek >>= comma_by p
+
+-- ---- names = NAME { "," NAME }
+
+-- [ "," NAME ]
+unfoldable pub comma_name : Reader (Option AstName)
+comma_name = comma_then name
+
+-- [ names ]
+abbrev pub some_names_by : Option Lexeme → Reader (List AstName)
+some_names_by (Some (lex.Name n)) = do
+  x ← name
+  items_from comma_name (x ∷ [])
+some_names_by w = give []
+
+unfoldable pub some_names : Reader (List AstName)
+some_names = peek >>= some_names_by
+
+-- ---- type = "[" [ key_col { "," key_col } ] ":" val_col { "," val_col } "]"
+
+-- key_col = NAME ":" "nat"
+unfoldable pub key_col : Reader AstKeyCol
+key_col = do
+  x ← name
+  at ← sign Colon
+  t ← key_type
+  give (record { name = x; ty = t })
+
+-- [ "," key_col ]
+unfoldable pub comma_key_col : Reader (Option AstKeyCol)
+comma_key_col = comma_then key_col
+
+-- [ key_col { "," key_col } ]
+abbrev pub some_key_cols_by : Option Lexeme → Reader (List AstKeyCol)
+some_key_cols_by (Some (lex.Name n)) = do
+  x ← key_col
+  items_from comma_key_col (x ∷ [])
+some_key_cols_by w = give []
+
+unfoldable pub some_key_cols : Reader (List AstKeyCol)
+some_key_cols = peek >>= some_key_cols_by
+
+-- val_col = NAME ":" "count"
+unfoldable pub val_col : Reader AstValCol
+val_col = do
+  x ← name
+  at ← sign Colon
+  t ← val_type
+  give (record { name = x; ty = t })
+
+-- [ "," val_col ]
+unfoldable pub comma_val_col : Reader (Option AstValCol)
+comma_val_col = comma_then val_col
+
+-- val_col { "," val_col }
+unfoldable pub val_cols : Reader (List AstValCol)
+val_cols = do
+  x ← val_col
+  items_from comma_val_col (x ∷ [])
+
+unfoldable pub table_type : Reader AstColumns
+table_type = do
+  at ← sign OpenBracket
+  keys ← some_key_cols
+  mid ← sign Colon
+  vals ← val_cols
+  end ← sign CloseBracket
+  give (record { keys = keys; vals = vals })
+
+-- ---- entry = [ lit { "," lit } ] ":" lit { "," lit }
+
+-- [ "," lit ]
+unfoldable pub comma_lit : Reader (Option AstLit)
+comma_lit = comma_then lit
+
+-- lit { "," lit }
+unfoldable pub lits : Reader (List AstLit)
+lits = do
+  x ← lit
+  items_from comma_lit (x ∷ [])
+
+-- [ lit { "," lit } ]
+abbrev pub some_lits_by : Option Lexeme → Reader (List AstLit)
+some_lits_by (Some (lex.Number n)) = lits
+some_lits_by w = give []
+
+unfoldable pub some_lits : Reader (List AstLit)
+some_lits = peek >>= some_lits_by
+
+-- the place of the first of a list, or another
+abbrev pub first_at : List AstLit → ℕ → ℕ
+first_at [] at = at
+first_at (x ∷ xs) at = x.at
+
+unfoldable pub entry : Reader AstEntry
+entry = do
+  keys ← some_lits
+  at ← sign Colon
+  row ← lits
+  give (record { at = first_at keys at; key = keys; row = row })
+
+-- ---- [ entries ], entries = entry { ";" entry } [ ";" ]
+
+-- [ entry ]
+abbrev pub entry_here_by : Option Lexeme → Reader (Option AstEntry)
+entry_here_by (Some (lex.Number n)) = do
+  x ← entry
+  give (Some x)
+entry_here_by (Some (lex.Sign Colon)) = do
+  x ← entry
+  give (Some x)
+entry_here_by w = give None
+
+unfoldable pub entry_here : Reader (Option AstEntry)
+entry_here = peek >>= entry_here_by
+
+-- [ ";" [ entry ] ]
+abbrev pub semi_entry_by : Option Lexeme → Reader (Option AstEntry)
+semi_entry_by (Some (lex.Sign Semi)) = do
+  at ← skip
+  entry_here
+semi_entry_by w = give None
+
+unfoldable pub semi_entry : Reader (Option AstEntry)
+semi_entry = peek >>= semi_entry_by
+
+abbrev pub entries_from : Option AstEntry → Reader (List AstEntry)
+entries_from None = give []
+entries_from (Some x) = items_from semi_entry (x ∷ [])
+
+unfoldable pub some_entries : Reader (List AstEntry)
+some_entries = entry_here >>= entries_from
+
+-- ---- table = "table" type "{" [ entries ] "}"
+
+abbrev pub node : ℕ → AstOp → AstNode
+node at what = record { at = at; op = what }
+
+abbrev pub table_by : Option Lexeme → Reader AstNode
+table_by (Some (lex.Key key.Table)) = do
+  at ← skip
+  ty ← table_type
+  open_at ← sign OpenBrace
+  es ← some_entries
+  end ← sign CloseBrace
+  give (node at (op.Literal ty es))
+table_by w = refuse Unexpected
+
+unfoldable pub table : Reader AstNode
+table = peek >>= table_by
+
+-- ---- statement = NAME "=" table ";" | "print" NAME [ "by" [ names ] ] ";"
+
+abbrev pub some_order_by : Option Lexeme → Reader (Option AstBy)
+some_order_by (Some (lex.Key key.By)) = do
+  at ← skip
+  ns ← some_names
+  give (Some (record { at = at; names = ns }))
+some_order_by w = give None
+
+-- [ "by" [ names ] ]
+unfoldable pub some_order : Reader (Option AstBy)
+some_order = peek >>= some_order_by
+
+abbrev pub statement_by : Option Lexeme → Reader AstStatement
+statement_by (Some (lex.Name n)) = do
+  x ← name
+  is ← sign Is
+  t ← table
+  end ← sign Semi
+  give (st.Assign x.at x t)
+statement_by (Some (lex.Key key.Print)) = do
+  at ← skip
+  x ← name
+  by ← some_order
+  end ← sign Semi
+  give (st.Print at x by)
+statement_by w = refuse Unexpected
+
+unfoldable pub statement : Reader AstStatement
+statement = peek >>= statement_by
+
+-- ---- script = { statement }
+
+-- what a word without room for a statement is refused for: it could begin one, or could not
+abbrev pub no_room : Lexeme → Kind
+no_room (lex.Name n) = TooMany
+no_room (lex.Key key.Print) = TooMany
+no_room w = Unexpected
+
+abbrev pub next_by : Bool → Option Lexeme → Reader (Option AstStatement)
+next_by room None = give None
+next_by true (Some w) = do
+  x ← statement
+  give (Some x)
+next_by false (Some w) = refuse (no_room w)
+
+-- the next statement, where there is room for one
+unfoldable pub next_statement : Bool → Reader (Option AstStatement)
+next_statement room = peek >>= next_by room
+
+-- statements behind others, so many in all
+unfoldable pub statements : ℕ → List AstStatement → Reader (List AstStatement)
+statements limit xs = list_from (λ ys. next_statement (nat_lt (length ys) limit)) xs
+
+-- a script of at most so many statements
+unfoldable pub script : ℕ → Reader (List AstStatement)
+script limit = statements limit []

@@ -1,0 +1,38 @@
+-- The script that bytes are, and what words begin one.
+use Rattle.std.specs.Prelude.{◌≡◌, ℕ, List, [], ◌∷◌, ◌++◌, None}
+use Rattle.lara_syntax.specs.declared.ast.Ast.{Ast}
+use Rattle.lara_syntax.specs.declared.ast.AstStatement.{AstStatement}
+use Rattle.lara_syntax.specs.declared.item.Lexeme.{Lexeme}
+use Rattle.lara_syntax.specs.Steps.{Items}
+use Rattle.lara_syntax.specs.Grammar.{Many, Statement, Script}
+use Rattle.lara_syntax.specs.Spellings.{Spells}
+use Rattle.lara_syntax.specs.Tokens.{items_of, stop_of}
+
+-- the tree stands in the grammar to the words, which are all of the bytes
+abbrev pub Stands : List ℕ → Ast → Type 0
+Stands bytes ast = Script 256 ast.statements (items_of bytes) × (stop_of bytes ≡ None)
+
+-- some text spells the word
+abbrev pub IsSpelled : Lexeme → Type 0
+IsSpelled w = (text : List ℕ) × Spells w text
+
+-- words that can be written
+abbrev pub AreSpelled : Items → Type 0
+AreSpelled [] = Unit {0}
+AreSpelled (t ∷ ts) = IsSpelled t.lexeme × AreSpelled ts
+
+-- a script begins with these words
+abbrev pub SomeBegins : Items → Type 0
+SomeBegins ts = (after : Items) × AreSpelled after × (xs : List AstStatement) × Script 256 xs (ts ++ after)
+
+-- no script begins with these words
+abbrev pub NoneBegins : Items → Type 0
+NoneBegins ts = (after : Items) (xs : List AstStatement) → Script 256 xs (ts ++ after) → ⊥
+
+-- statements, however many, begin with these words
+abbrev pub LongBegins : Items → Type 0
+LongBegins ts = (after : Items) × AreSpelled after × (xs : List AstStatement) × Many Statement xs (ts ++ after) []
+
+-- no statements, however many, begin with these words
+abbrev pub NoLongBegins : Items → Type 0
+NoLongBegins ts = (after : Items) (xs : List AstStatement) → Many Statement xs (ts ++ after) [] → ⊥

@@ -1,0 +1,91 @@
+//! Copies of expressions and of what holds them.
+ghost use Rattle.std.specs.Prelude.{◌≡◌, IfOk};
+
+use crate::ast_expr::{AstExpr, AstForm};
+use crate::ast_part::{AstArg, AstCall, AstDef, AstKeyDef, AstPair};
+use lara_base::{Boxed, Copied};
+use std::alloc::{AllocError, Global};
+
+impl Copied for AstExpr {
+    #[cycle(copy_expr)]
+    fn copy(&self, alloc: Global) -> Result<AstExpr, AllocError> {
+        Ok(AstExpr {
+            at: self.at,
+            form: self.form.copy(alloc)?,
+        })
+    }
+}
+
+impl Copied for AstForm {
+    #[cycle(copy_expr)]
+    fn copy(&self, alloc: Global) -> Result<AstForm, AllocError> {
+        match self {
+            AstForm::Column(name) => Ok(AstForm::Column(name.copy(alloc)?)),
+            AstForm::Number(n) => Ok(AstForm::Number(*n)),
+            AstForm::Text(text) => Ok(AstForm::Text(text.copy(alloc)?)),
+            AstForm::Flag(flag) => Ok(AstForm::Flag(*flag)),
+            AstForm::Inf => Ok(AstForm::Inf),
+            AstForm::None => Ok(AstForm::None),
+            AstForm::Two(op, a, b) => Ok(AstForm::Two(
+                *op,
+                Boxed::new(alloc, a.get().copy(alloc)?)?,
+                Boxed::new(alloc, b.get().copy(alloc)?)?,
+            )),
+            AstForm::Not(a) => Ok(AstForm::Not(Boxed::new(alloc, a.get().copy(alloc)?)?)),
+            AstForm::If(test, a, b) => Ok(AstForm::If(
+                Boxed::new(alloc, test.get().copy(alloc)?)?,
+                Boxed::new(alloc, a.get().copy(alloc)?)?,
+                Boxed::new(alloc, b.get().copy(alloc)?)?,
+            )),
+            AstForm::Fun(op, a) => {
+                Ok(AstForm::Fun(*op, Boxed::new(alloc, a.get().copy(alloc)?)?))
+            }
+        }
+    }
+}
+
+impl Copied for AstDef {
+    fn copy(&self, alloc: Global) -> Result<AstDef, AllocError> {
+        Ok(AstDef {
+            col: self.col.copy(alloc)?,
+            expr: self.expr.copy(alloc)?,
+        })
+    }
+}
+
+impl Copied for AstKeyDef {
+    fn copy(&self, alloc: Global) -> Result<AstKeyDef, AllocError> {
+        Ok(AstKeyDef {
+            col: self.col.copy(alloc)?,
+            expr: self.expr.copy(alloc)?,
+        })
+    }
+}
+
+impl Copied for AstPair {
+    fn copy(&self, alloc: Global) -> Result<AstPair, AllocError> {
+        Ok(AstPair {
+            old: self.old.copy(alloc)?,
+            new: self.new.copy(alloc)?,
+        })
+    }
+}
+
+impl Copied for AstCall {
+    fn copy(&self, alloc: Global) -> Result<AstCall, AllocError> {
+        Ok(AstCall {
+            plugin: self.plugin.copy(alloc)?,
+            args: self.args.copy(alloc)?,
+            cols: self.cols.copy(alloc)?,
+        })
+    }
+}
+
+impl Copied for AstArg {
+    fn copy(&self, alloc: Global) -> Result<AstArg, AllocError> {
+        match self {
+            AstArg::Column(name) => Ok(AstArg::Column(name.copy(alloc)?)),
+            AstArg::Literal(lit) => Ok(AstArg::Literal(lit.copy(alloc)?)),
+        }
+    }
+}

@@ -1,0 +1,35 @@
+//! Why the words of a script were not read.
+ghost use Rattle.std.specs.Prelude.{◌≡◌};
+ghost use Rattle.lara_syntax.specs.declared.fault.Fault.TheVariants.{Memory};
+
+use lara_data::Kind;
+use std::alloc::{AllocError, AllocFailed};
+
+/// A word that cannot stand where it does, by how many words are left from it on. 0 is the end of the script.
+#[derive(Clone, Copy)]
+pub struct Stop {
+    pub left: usize,
+    pub kind: Kind,
+}
+
+#[derive(Drop)]
+pub enum Fault {
+    Memory,
+    Stopped(Stop),
+}
+
+impl From<AllocError> for Fault {
+    ghost from_gives = { λ _ e. e ≡ Memory };
+
+    fn from(_e: AllocError) -> Fault {
+        Fault::Memory
+    }
+}
+
+impl<T: Drop> From<AllocFailed<T>> for Fault {
+    ghost from_gives = { λ _ e. e ≡ Memory };
+
+    fn from(_e: AllocFailed<T>) -> Fault {
+        Fault::Memory
+    }
+}

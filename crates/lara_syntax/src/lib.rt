@@ -1,0 +1,35 @@
+//! The language: bytes to tokens, and tokens to the tree with places or the first refusal.
+#![tactic(auto)]
+
+mod ast;
+mod ast_copy;
+mod ast_expr;
+mod ast_part;
+mod ast_part_copy;
+mod classes;
+mod fault;
+mod item;
+mod parsing;
+mod rules;
+mod scan;
+mod scan_fault;
+mod scan_word;
+mod steps;
+mod text_word;
+mod token;
+mod word_text;
+
+pub use ast::{
+    Ast, AstBy, AstEntry, AstKeyCol, AstLit, AstName, AstNode, AstOp, AstStatement, AstType,
+    AstValCol, AstValue,
+};
+pub use ast_expr::{AstExpr, AstForm};
+pub use ast_part::{AstArg, AstCall, AstDef, AstKeyDef, AstPair};
+pub use lara_data::{FunOp, KeyCol, Kind, ReadFault, Refusal, TableType, TwoOp, ValCol};
+pub use parsing::parse;
+pub use token::{Token, TokenList, TokenWord, tokens};
+
+#[cfg(test)]
+mod tests_grammar;
+#[cfg(test)]
+mod tests_tokens;

@@ -1,0 +1,103 @@
+//! Scripts: bytes to the tree, or to the first refusal.
+ghost use Rattle.std.specs.Prelude.{◌≡◌, ◌≤◌, ◌-◌, length, Ok, IfOk, IfErr};
+ghost use Rattle.lara_syntax.specs.declared.ast.Ast.{Ast};
+ghost use Rattle.lara_data.specs.declared.refusal.Refusal.{Refusal};
+ghost use Rattle.lara_syntax.specs.Parsed.{ParseGives, FaultGives, parsed, answered, place_of, refusal_of, at_end_of, read_value};
+ghost use Rattle.lara_syntax.specs.Reading.{script};
+ghost use Rattle.lara_syntax.specs.Refusals.{Refuses, RefusesRight};
+ghost use Rattle.lara_syntax.specs.Scripts.{Stands};
+ghost use Rattle.lara_syntax.specs.Tokens.{items_of, stop_of};
+
+use crate::ast::Ast;
+use crate::fault::{Fault, Stop};
+use crate::item::Item;
+use crate::rules::statements::script;
+use crate::scan::{ItemList, read_items};
+use lara_data::{ReadFault, Refusal};
+use std::alloc::Global;
+
+// How many statements a script may have.
+const MOST_STATEMENTS: usize = 256;
+
+// The place of the word from which so many are left, or that of the end.
+fn place(items: &[Item], size: u32, left: usize) -> u32
+    ensures { result ≡ place_of size items.now left }
+{
+    match items.get(items.len().saturating_sub(left)) {
+        Some(item) => item.at,
+        None => size,
+    }
+}
+
+fn refusal(items: &[Item], size: u32, stop: Stop) -> Refusal
+    ensures { result ≡ refusal_of size items.now stop }
+{
+    Refusal {
+        at: place(items, size, stop.left),
+        kind: stop.kind,
+    }
+}
+
+// At the end of the words, what is no token comes first.
+fn first_refusal(left: usize, token: Option<Refusal>, refusal: Refusal) -> Refusal
+    ensures { result ≡ at_end_of left token refusal }
+{
+    if left > 0 {
+        return refusal;
+    }
+    match token {
+        Some(token) => token,
+        None => refusal,
+    }
+}
+
+// What the words give, where the tokens stop so.
+fn answer(
+    alloc: Global,
+    size: u32,
+    items: &[Item],
+    token: Option<Refusal>,
+) -> Result<Ast, ReadFault>
+    ensures { ParseGives result (answered size items.now token (read_value (script 256 items.now))) }
+{
+    match script(alloc, MOST_STATEMENTS, items) {
+        Ok(statements) => match token {
+            Some(token) => Err(ReadFault::Refused(token)),
+            None => Ok(Ast { statements }),
+        },
+        Err(Fault::Memory) => Err(ReadFault::Memory),
+        Err(Fault::Stopped(stop)) => {
+            let at_word = refusal(items, size, stop);
+            Err(ReadFault::Refused(first_refusal(stop.left, token, at_word)))
+        }
+    }
+}
+
+// The same of bytes.
+#[tactic(auto, unfolding(crate::specs::Parsed::parsed))]
+fn read_script(alloc: Global, bytes: &[u8]) -> Result<Ast, ReadFault>
+    requires { length bytes.now ≤ 1048576 }
+    ensures { ParseGives result (parsed bytes.now) }
+{
+    let ItemList { list, stopped } = read_items(alloc, bytes)?;
+    answer(alloc, bytes.len() as u32, list.as_slice(), stopped)
+}
+
+/// The tree of a script, or the first refusal: the least place at which no script goes on. A token's own refusal comes
+/// before the grammar's at the same place. A script has at most 256 statements.
+#[tactic(auto, using(crate::proofs::ParsedLaws::parsed_laws, crate::proofs::OneRefusal::parsed_one_refusal))]
+pub fn parse(alloc: Global, bytes: &[u8]) -> Result<Ast, ReadFault>
+    requires { length bytes.now ≤ 1048576 }
+    // The tree stands in the grammar to the bytes.
+    ensures found { IfOk result (λ ast. Stands bytes.now ast) }
+    // What stands in it is answered, unless memory runs out.
+    ensures only { (ast : Ast) → Stands bytes.now ast → ParseGives result (Ok ast) }
+    // No script goes on with the refused word, one goes on before it, and the kind is right.
+    ensures refused { IfErr result (λ e. RefusesRight bytes.now e) }
+    // There is one such refusal, and it is answered, unless memory runs out.
+    ensures only_refusal { (refusal : Refusal) → Refuses bytes.now refusal → ParseGives result (Err refusal) }
+    // Which tree and which refusal it is.
+    ensures exact { ParseGives result (parsed bytes.now) }
+{
+    read_script(alloc, bytes)
+}

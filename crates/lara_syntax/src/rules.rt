@@ -1,0 +1,6 @@
+//! The rules of the grammar, each as it is read from left to right.
+pub mod columns;
+pub mod entries;
+pub mod names;
+pub mod statements;
+pub mod tables;

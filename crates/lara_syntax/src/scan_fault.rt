@@ -1,0 +1,28 @@
+//! Why a step of the scanner gives nothing.
+ghost use Rattle.std.specs.Prelude.{◌≡◌};
+ghost use Rattle.lara_syntax.specs.declared.scan_fault.ScanFault.TheVariants.{Memory};
+
+use lara_data::Kind;
+use std::alloc::{AllocError, AllocFailed};
+
+#[derive(Drop)]
+pub enum ScanFault {
+    Memory,
+    Bad(Kind),
+}
+
+impl From<AllocError> for ScanFault {
+    ghost from_gives = { λ _ e. e ≡ Memory };
+
+    fn from(_e: AllocError) -> ScanFault {
+        ScanFault::Memory
+    }
+}
+
+impl<T: Drop> From<AllocFailed<T>> for ScanFault {
+    ghost from_gives = { λ _ e. e ≡ Memory };
+
+    fn from(_e: AllocFailed<T>) -> ScanFault {
+        ScanFault::Memory
+    }
+}

@@ -1,0 +1,84 @@
+//! The tokens of small scripts, with their places, worked out by hand.
+ghost use Rattle.std.specs.Prelude.{◌≤◌, length};
+
+use crate::token::{Token, TokenWord, tokens};
+use std::alloc::{AllocError, Global};
+
+// Each script with its tokens: place + length and kind, and where they stop.
+const CASES: [(&[u8], &str); 17] = [
+    (b"", ""),
+    (b"a = 1;", "0+1 name, 2+1 sign, 4+1 number 1, 5+1 sign, "),
+    (b" # x\r y\n\tb#", "9+1 name, "),
+    (b"print _x9", "0+5 keyword, 6+3 name, "),
+    (
+        b"<=<+++!=",
+        "0+2 sign, 2+1 sign, 3+2 sign, 5+1 sign, 6+2 sign, ",
+    ),
+    (b"007:08", "0+3 number 7, 3+1 sign, 4+2 number 8, "),
+    (
+        b"18446744073709551615",
+        "0+20 number 18446744073709551615, ",
+    ),
+    (b"1 18446744073709551616", "0+1 number 1, 2 BadNumber"),
+    (b"12_", "0 BadNumber"),
+    (
+        b"\"a\\\"\\\\\\x4a\xff\";",
+        "0+12 text 61 22 5c 4a ff , 12+1 sign, ",
+    ),
+    (b"a \"\x7f\"", "0+1 name, 2 BadText"),
+    (b"\"\\n\"", "0 BadText"),
+    (b"\"\\xA\"", "0 BadText"),
+    (b"(\"ab", "0+1 sign, 1 BadText"),
+    (b"a ! b", "0+1 name, 2 BadByte"),
+    (
+        b"b1234567890123456789012345678901234567890123456789012345678901_3",
+        "0+64 name, ",
+    ),
+    (
+        b",b1234567890123456789012345678901234567890123456789012345678901_34",
+        "0+1 sign, 1 TooLong",
+    ),
+];
+
+fn shown_word(alloc: Global, token: &Token) -> Result<String, AllocError> {
+    match &token.word {
+        TokenWord::Name => format!(in alloc; "name, "),
+        TokenWord::Keyword => format!(in alloc; "keyword, "),
+        TokenWord::Number(n) => format!(in alloc; "number {n}, "),
+        TokenWord::Text(content) => {
+            let mut out = format!(in alloc; "text ")?;
+            for b in content.bytes() {
+                out.push_str(&format!(in alloc; "{b:02x} ")?)?;
+            }
+            out.push_str(", ")?;
+            Ok(out)
+        }
+        TokenWord::Sign => format!(in alloc; "sign, "),
+    }
+}
+
+fn shown(alloc: Global, script: &[u8]) -> Result<String, AllocError>
+    requires { length script.now ≤ 1048576 }
+{
+    let tokens = tokens(alloc, script)?;
+    let mut out = String::new(alloc);
+    for token in &tokens.list {
+        out.push_str(&format!(in alloc; "{}+{} ", token.at, token.len)?)?;
+        out.push_str(&shown_word(alloc, token)?)?;
+    }
+    if let Some(refusal) = tokens.stopped {
+        out.push_str(&format!(in alloc; "{} {:?}", refusal.at, refusal.kind)?)?;
+    }
+    Ok(out)
+}
+
+#[test]
+fn small_scripts(rt: HostRuntime) -> Result<(), AllocError> {
+    for (script, want) in CASES {
+        if script.len() <= 1048576 {
+            let got = shown(rt.alloc(), script)?;
+            assert_eq!(rt; got.as_str(), want, "at {want}");
+        }
+    }
+    Ok(())
+}
