@@ -1,0 +1,11 @@
+pub mod ColumnFacts
+pub mod GroupFacts
+pub mod JoinFacts
+pub mod MapFacts
+pub mod MeantFacts
+pub mod PairFacts
+pub mod RangeFacts
+pub mod RowFacts
+pub mod RunFacts
+pub mod TableFacts
+pub mod TreeSizes

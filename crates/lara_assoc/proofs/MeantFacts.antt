@@ -1,0 +1,144 @@
+-- The operands of a tree that is meant are meant, and what is made of their tables is what the tree means.
+use Rattle.std.proofs.Common.{◌≡◌, true, List, sym, ap, ◌∙◌, refl, Result, Ok, Err, IfOk}
+use Rattle.std.proofs.Math.Path.{subst}
+use Rattle.std.specs.declared.alloc.AllocError.{AllocError}
+use Rattle.lara_data.specs.declared.node.Node.{Node}
+use Rattle.lara_data.specs.declared.node.Op.{Op}
+use Rattle.lara_data.specs.declared.node.Op.TheVariants.{Load, Named, Literal, Join, Union, Agg, Map, Filter, Promote, Rename, Apply}
+use Rattle.lara_data.specs.declared.schema.Schema.{Schema}
+use Rattle.lara_data.specs.declared.arg.Call.{Call}
+use Rattle.lara_data.specs.declared.arg.Def.{Def}
+use Rattle.lara_data.specs.declared.arg.KeyDef.{KeyDef}
+use Rattle.lara_data.specs.declared.arg.NamePair.{NamePair}
+use Rattle.lara_data.specs.declared.expr.Expr.{Expr}
+use Rattle.lara_data.specs.TableTypes.{types, are_columns}
+use Rattle.lara_data.specs.Names.{Name}
+use Rattle.lara_data.specs.KeyedTables.{all_have}
+use Rattle.lara_data.specs.Tables.{Entries, Table, table_of}
+use Rattle.lara_data.specs.Algebra.{join_columns, union_columns, agg_columns, join_tables, union_tables, agg_table}
+use Rattle.lara_data.specs.Plugins.{Plugins}
+use Rattle.lara_data.specs.Denotations.{NamedTable, Database, table_named, table_or_empty, meaning, meaning_of}
+use Rattle.lara_data.specs.Fits.{OpFits, IsTableOf}
+use Rattle.lara_data.specs.TypedTrees.{OpTyped, IsLiteral}
+use Rattle.lara_data.specs.TypeRuleLaws.{join_type_rules, union_type_rules, agg_type_rules}
+use Rattle.lara_data.specs.MeaningLaws.{IsTableOf-meaning, IsTableOf-join, IsTableOf-union, IsTableOf-agg}
+use Rattle.lara_data.proofs.FitEquations.{fits_Join, fits_Union, fits_Agg}
+use Rattle.lara_data.proofs.MeaningEquations.{meaning_Load, meaning_Named, meaning_Literal, meaning_Join, meaning_Union, meaning_Agg}
+use Rattle.lara_data.proofs.TypedEquations.{typed_Literal, typed_Join, typed_Union, typed_Agg, typed_Map, typed_Filter, typed_Promote, typed_Rename, typed_Apply}
+use Rattle.lara_assoc.specs.Meant.{IsMeant}
+
+typed_as : (known : List Schema) (node : Node) (o : Op) (T : Type 0) → node.op ≡ o → OpTyped known o node.ty ≡ T → OpTyped known node.op node.ty → T
+typed_as known node o T e q h = subst (λ (X : Type 0). X) q (subst (λ (p : Op). OpTyped known p node.ty) e h)
+
+fits_as : (ps : Plugins) (db : Database) (node : Node) (o : Op) (T : Type 0) → node.op ≡ o → OpFits ps db o node.ty ≡ T → OpFits ps db node.op node.ty → T
+fits_as ps db node o T e q h = subst (λ (X : Type 0). X) q (subst (λ (p : Op). OpFits ps db p node.ty) e h)
+
+pub ok_is : (r : Result Table AllocError) (s t : Table) → s ≡ t → IfOk r (λ x. x ≡ s) → IfOk r (λ x. x ≡ t)
+ok_is (Err _) s t e h = tt
+ok_is (Ok x) s t e h = h ∙ e
+
+module _ (ps : Plugins) (db : Database) (tables : List NamedTable) where
+  its_table : (node : Node) → IsMeant ps db tables node → IsTableOf node.ty (meaning_of ps db tables node)
+  its_table node h = IsTableOf-meaning ps db h.known tables h.stands node.op node.ty h.typed h.fits
+
+  from_op : (node : Node) (o : Op) → node.op ≡ o → meaning ps db tables o node.ty ≡ meaning_of ps db tables node
+  from_op node o e = ap (λ (p : Op). meaning ps db tables p node.ty) (sym e)
+
+  pub load_means : (node : Node) (n : Name) → node.op ≡ Load n → table_or_empty node.ty (table_named n db) ≡ meaning_of ps db tables node
+  load_means node n e = sym (meaning_Load ps db tables n node.ty) ∙ from_op node (Load n) e
+
+  pub name_means : (node : Node) (n : Name) → node.op ≡ Named n → table_or_empty node.ty (table_named n tables) ≡ meaning_of ps db tables node
+  name_means node n e = sym (meaning_Named ps db tables n node.ty) ∙ from_op node (Named n) e
+
+  pub literal_means : (node : Node) (es : Entries) → node.op ≡ Literal es → table_of node.ty es ≡ meaning_of ps db tables node
+  literal_means node es e = sym (meaning_Literal ps db tables es node.ty) ∙ from_op node (Literal es) e
+
+  pub literal_has : (node : Node) (es : Entries) → node.op ≡ Literal es → IsMeant ps db tables node → all_have (types node.ty.vals) es ≡ true
+  literal_has node es e h = (typed_as h.known node (Literal es) (IsLiteral node.ty es) e (typed_Literal h.known es node.ty) h.typed).rows
+
+  -- joins
+  pub join_left : (node a b x : Node) → node.op ≡ Join a b → x ≡ a → IsMeant ps db tables node → IsMeant ps db tables x
+  join_left node a b x e i h =
+      let t = typed_as h.known node (Join a b) _ e (typed_Join h.known a b node.ty) h.typed in
+      let f = fits_as ps db node (Join a b) _ e (fits_Join ps db a b node.ty) h.fits in
+      subst (IsMeant ps db tables) (sym i) (record { known = h.known; stands = h.stands; typed = t.1; fits = f.0 })
+
+  pub join_right : (node a b x : Node) → node.op ≡ Join a b → x ≡ b → IsMeant ps db tables node → IsMeant ps db tables x
+  join_right node a b x e i h =
+      let t = typed_as h.known node (Join a b) _ e (typed_Join h.known a b node.ty) h.typed in
+      let f = fits_as ps db node (Join a b) _ e (fits_Join ps db a b node.ty) h.fits in
+      subst (IsMeant ps db tables) (sym i) (record { known = h.known; stands = h.stands; typed = t.2; fits = f.1 })
+
+  pub join_means : (node a b x y : Node) (l r : Table) → node.op ≡ Join a b → x ≡ a → y ≡ b → l ≡ meaning_of ps db tables x → r ≡ meaning_of ps db tables y → join_tables l r ≡ meaning_of ps db tables node
+  join_means node a b x y l r e i j p q =
+      (λ k. join_tables ((p ∙ ap (meaning_of ps db tables) i) k) ((q ∙ ap (meaning_of ps db tables) j) k)) ∙ sym (meaning_Join ps db tables a b node.ty) ∙ from_op node (Join a b) e
+
+  pub join_are : (node a b x y : Node) (l r : Table) → node.op ≡ Join a b → x ≡ a → y ≡ b → IsMeant ps db tables node → l ≡ meaning_of ps db tables x → r ≡ meaning_of ps db tables y → are_columns (join_columns l.ty r.ty).keys (join_columns l.ty r.ty).vals ≡ true
+  unfolding join_tables
+  join_are node a b x y l r e i j h p q =
+      let t = typed_as h.known node (Join a b) _ e (typed_Join h.known a b node.ty) h.typed in
+      let s = its_table a (join_left node a b a e refl h) in
+      let u = its_table b (join_right node a b b e refl h) in
+      (λ k. are_columns (join_columns ((p ∙ ap (meaning_of ps db tables) i) k).ty ((q ∙ ap (meaning_of ps db tables) j) k).ty).keys (join_columns ((p ∙ ap (meaning_of ps db tables) i) k).ty ((q ∙ ap (meaning_of ps db tables) j) k).ty).vals)
+      ∙ (IsTableOf-join (meaning_of ps db tables a) (meaning_of ps db tables b) a.ty b.ty node.ty s u (join_type_rules a.ty b.ty node.ty t.0)).typed.columns
+
+  -- unions
+  pub union_left : (node a b x : Node) → node.op ≡ Union a b → x ≡ a → IsMeant ps db tables node → IsMeant ps db tables x
+  union_left node a b x e i h =
+      let t = typed_as h.known node (Union a b) _ e (typed_Union h.known a b node.ty) h.typed in
+      let f = fits_as ps db node (Union a b) _ e (fits_Union ps db a b node.ty) h.fits in
+      subst (IsMeant ps db tables) (sym i) (record { known = h.known; stands = h.stands; typed = t.1; fits = f.0 })
+
+  pub union_right : (node a b x : Node) → node.op ≡ Union a b → x ≡ b → IsMeant ps db tables node → IsMeant ps db tables x
+  union_right node a b x e i h =
+      let t = typed_as h.known node (Union a b) _ e (typed_Union h.known a b node.ty) h.typed in
+      let f = fits_as ps db node (Union a b) _ e (fits_Union ps db a b node.ty) h.fits in
+      subst (IsMeant ps db tables) (sym i) (record { known = h.known; stands = h.stands; typed = t.2; fits = f.1 })
+
+  pub union_means : (node a b x y : Node) (l r : Table) → node.op ≡ Union a b → x ≡ a → y ≡ b → l ≡ meaning_of ps db tables x → r ≡ meaning_of ps db tables y → union_tables l r ≡ meaning_of ps db tables node
+  union_means node a b x y l r e i j p q =
+      (λ k. union_tables ((p ∙ ap (meaning_of ps db tables) i) k) ((q ∙ ap (meaning_of ps db tables) j) k)) ∙ sym (meaning_Union ps db tables a b node.ty) ∙ from_op node (Union a b) e
+
+  pub union_are : (node a b x y : Node) (l r : Table) → node.op ≡ Union a b → x ≡ a → y ≡ b → IsMeant ps db tables node → l ≡ meaning_of ps db tables x → r ≡ meaning_of ps db tables y → are_columns (union_columns l.ty r.ty).keys (union_columns l.ty r.ty).vals ≡ true
+  unfolding union_tables
+  union_are node a b x y l r e i j h p q =
+      let t = typed_as h.known node (Union a b) _ e (typed_Union h.known a b node.ty) h.typed in
+      let s = its_table a (union_left node a b a e refl h) in
+      let u = its_table b (union_right node a b b e refl h) in
+      (λ k. are_columns (union_columns ((p ∙ ap (meaning_of ps db tables) i) k).ty ((q ∙ ap (meaning_of ps db tables) j) k).ty).keys (union_columns ((p ∙ ap (meaning_of ps db tables) i) k).ty ((q ∙ ap (meaning_of ps db tables) j) k).ty).vals)
+      ∙ (IsTableOf-union (meaning_of ps db tables a) (meaning_of ps db tables b) a.ty b.ty node.ty s u (union_type_rules a.ty b.ty node.ty t.0)).typed.columns
+
+  -- aggs
+  pub agg_below : (node a x : Node) (ks : List Name) → node.op ≡ Agg a ks → x ≡ a → IsMeant ps db tables node → IsMeant ps db tables x
+  agg_below node a x ks e i h =
+      let t = typed_as h.known node (Agg a ks) _ e (typed_Agg h.known a ks node.ty) h.typed in
+      let f = fits_as ps db node (Agg a ks) _ e (fits_Agg ps db a ks node.ty) h.fits in
+      subst (IsMeant ps db tables) (sym i) (record { known = h.known; stands = h.stands; typed = t.1; fits = f })
+
+  pub agg_means : (node a x : Node) (ks : List Name) (l : Table) → node.op ≡ Agg a ks → x ≡ a → l ≡ meaning_of ps db tables x → agg_table l ks ≡ meaning_of ps db tables node
+  agg_means node a x ks l e i p =
+      ap (λ (t : Table). agg_table t ks) (p ∙ ap (meaning_of ps db tables) i) ∙ sym (meaning_Agg ps db tables a ks node.ty) ∙ from_op node (Agg a ks) e
+
+  pub agg_are : (node a x : Node) (ks : List Name) (l : Table) → node.op ≡ Agg a ks → x ≡ a → IsMeant ps db tables node → l ≡ meaning_of ps db tables x → are_columns (agg_columns l.ty ks).keys (agg_columns l.ty ks).vals ≡ true
+  unfolding agg_table
+  agg_are node a x ks l e i h p =
+      let t = typed_as h.known node (Agg a ks) _ e (typed_Agg h.known a ks node.ty) h.typed in
+      let s = its_table a (agg_below node a a ks e refl h) in
+      ap (λ (z : Table). are_columns (agg_columns z.ty ks).keys (agg_columns z.ty ks).vals) (p ∙ ap (meaning_of ps db tables) i)
+      ∙ (IsTableOf-agg (meaning_of ps db tables a) a.ty ks node.ty s (agg_type_rules a.ty ks node.ty t.0)).typed.columns
+
+  -- no tree that is meant has an operator without a type
+  pub no_map : (node a : Node) (ds : List Def) → node.op ≡ Map a ds → IsMeant ps db tables node → ⊥
+  no_map node a ds e h = typed_as h.known node (Map a ds) ⊥ e (typed_Map h.known a ds node.ty) h.typed
+
+  pub no_filter : (node a : Node) (x : Expr) → node.op ≡ Filter a x → IsMeant ps db tables node → ⊥
+  no_filter node a x e h = typed_as h.known node (Filter a x) ⊥ e (typed_Filter h.known a x node.ty) h.typed
+
+  pub no_promote : (node a : Node) (d : KeyDef) → node.op ≡ Promote a d → IsMeant ps db tables node → ⊥
+  no_promote node a d e h = typed_as h.known node (Promote a d) ⊥ e (typed_Promote h.known a d node.ty) h.typed
+
+  pub no_rename : (node a : Node) (ns : List NamePair) → node.op ≡ Rename a ns → IsMeant ps db tables node → ⊥
+  no_rename node a ns e h = typed_as h.known node (Rename a ns) ⊥ e (typed_Rename h.known a ns node.ty) h.typed
+
+  pub no_apply : (node a : Node) (c : Call) → node.op ≡ Apply a c → IsMeant ps db tables node → ⊥
+  no_apply node a c e h = typed_as h.known node (Apply a c) ⊥ e (typed_Apply h.known a c node.ty) h.typed

@@ -1,0 +1,4 @@
+pub mod Groups
+pub mod JoinColumns
+pub mod Meant
+pub mod Runs

@@ -1,0 +1,26 @@
+//! Plain tables on ordered maps, and the plain evaluation of typed scripts over them.
+#![tactic(auto)]
+
+mod aggs;
+mod assoc;
+mod columns;
+mod groups;
+mod headings;
+mod joins;
+mod lists;
+mod named;
+mod range;
+mod rows;
+mod scripts;
+mod trees;
+mod unions;
+
+pub use aggs::agg;
+pub use assoc::Assoc;
+pub use joins::join;
+pub use named::{Answers, NamedTable, Printed, Stored};
+pub use scripts::eval;
+pub use unions::union;
+
+#[cfg(test)]
+mod tests;

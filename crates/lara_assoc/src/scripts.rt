@@ -1,0 +1,126 @@
+//! The plain evaluation of a script, statement by statement.
+ghost use Rattle.std.specs.Prelude.{◌≡◌, ◌<◌, ◌^◌, ◌-◌, length, IfOk, OnOk};
+ghost use Rattle.lara_data.specs.Plugins.{handed};
+ghost use Rattle.lara_data.specs.Fits.{ScriptFits, TablesTyped};
+ghost use Rattle.lara_data.specs.Denotations.{denotation};
+
+use crate::named::{Answers, NamedTable, Printed, Stored, table_named};
+use crate::trees::table_of;
+use lara_base::{Copied, List, Name};
+use lara_data::{Node, Order, Plugin, Script, Statement};
+use std::alloc::{AllocError, Global};
+
+// How many statements were run, the tables that they assigned, what they printed and what they stored.
+#[derive(Drop)]
+struct Running {
+    statement: u32,
+    tables: List<NamedTable>,
+    prints: List<Printed>,
+    stores: List<Stored>,
+}
+
+impl Running {
+    ghost use Rattle.lara_data.specs.Denotations.{Running as Runs, after};
+    ghost use Rattle.lara_data.specs.declared.script.Statement.TheVariants.{Assign};
+    ghost use Rattle.lara_assoc.specs.Runs.{IsRun, CanRun, after_print, after_store};
+    ghost use Rattle.lara_assoc.specs.Meant.{IsMeant};
+
+    fn assign(
+        &mut self,
+        alloc: Global,
+        stored: &List<NamedTable>,
+        plugins: &Vec<Box<dyn Plugin>>,
+        name: &Name,
+        node: &Node,
+    ) -> Result<(), AllocError>
+        requires few { self.old.statement < 2 ^ 32 - 1 }
+        requires scope { IsMeant (handed ⟦<dyn Plugin as Plugin>⟧ plugins.now.items) stored.now self.old.tables node.now }
+        ensures { (r : Runs) → IsRun self.old r → OnOk result (IsRun self.new (after (handed ⟦<dyn Plugin as Plugin>⟧ plugins.now.items) stored.now r (Assign name.now node.now))) }
+    {
+        let table = table_of(alloc, plugins, stored, &self.tables, node)?;
+        let name = name.copy(alloc)?;
+        self.tables.push(NamedTable { name, table })?;
+        self.statement += 1;
+        Ok(())
+    }
+
+    fn print(&mut self, alloc: Global, name: &Name, order: &Order) -> Result<(), AllocError>
+        requires few { self.old.statement < 2 ^ 32 - 1 }
+        ensures { (r : Runs) → IsRun self.old r → OnOk result (IsRun self.new (after_print r name.now order.now)) }
+    {
+        self.statement += 1;
+        if let Some(table) = table_named(&self.tables, name) {
+            self.prints.push(Printed {
+                statement: self.statement,
+                name: name.copy(alloc)?,
+                order: order.copy(alloc)?,
+                table: table.copy(alloc)?,
+            })?;
+        }
+        Ok(())
+    }
+
+    fn store(&mut self, alloc: Global, old: &Name, new: &Name) -> Result<(), AllocError>
+        requires few { self.old.statement < 2 ^ 32 - 1 }
+        ensures { (r : Runs) → IsRun self.old r → OnOk result (IsRun self.new (after_store r old.now new.now)) }
+    {
+        self.statement += 1;
+        if let Some(table) = table_named(&self.tables, old) {
+            self.stores.push(Stored {
+                statement: self.statement,
+                name: new.copy(alloc)?,
+                table: table.copy(alloc)?,
+            })?;
+        }
+        Ok(())
+    }
+
+    // One more statement.
+    fn run(
+        &mut self,
+        alloc: Global,
+        stored: &List<NamedTable>,
+        plugins: &Vec<Box<dyn Plugin>>,
+        statement: &Statement,
+    ) -> Result<(), AllocError>
+        requires few { self.old.statement < 2 ^ 32 - 1 }
+        requires can { CanRun (handed ⟦<dyn Plugin as Plugin>⟧ plugins.now.items) stored.now self.old statement.now }
+        ensures { (r : Runs) → IsRun self.old r → OnOk result (IsRun self.new (after (handed ⟦<dyn Plugin as Plugin>⟧ plugins.now.items) stored.now r statement.now)) }
+    {
+        match statement {
+            Statement::Assign(name, node) => self.assign(alloc, stored, plugins, name, node),
+            Statement::Print(name, order) => self.print(alloc, name, order),
+            Statement::Store(old, new) => self.store(alloc, old, new),
+        }
+    }
+}
+
+/// What a script prints and stores over stored tables. A store changes no table that the script loads.
+pub fn eval(
+    alloc: Global,
+    script: &Script,
+    tables: &List<NamedTable>,
+    plugins: &Vec<Box<dyn Plugin>>,
+) -> Result<Answers, AllocError>
+    requires few { length script.now < 2 ^ 32 }
+    requires tables { TablesTyped tables.now }
+    requires fits { ScriptFits (handed ⟦<dyn Plugin as Plugin>⟧ plugins.now.items) tables.now script.now }
+    ensures { IfOk result (λ a. a ≡ denotation (handed ⟦<dyn Plugin as Plugin>⟧ plugins.now.items) tables.now script.now) }
+{
+    let mut running = Running {
+        statement: 0,
+        tables: List::new(alloc),
+        prints: List::new(alloc),
+        stores: List::new(alloc),
+    };
+    for statement in script.statements.as_slice() {
+        running.run(alloc, tables, plugins, statement)?;
+    }
+    let Running {
+        statement: _,
+        tables: _,
+        prints,
+        stores,
+    } = running;
+    Ok(Answers { prints, stores })
+}

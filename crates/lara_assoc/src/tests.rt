@@ -1,0 +1,341 @@
+//! The calls where there is memory, with entries worked out by hand.
+ghost use Rattle.std.specs.Prelude.{◌≡◌, ◌∷◌, [], true, IfOk};
+ghost use Rattle.lara_key.specs.declared.key.KeyType.TheVariants.{Nat};
+ghost use Rattle.lara_semiring.specs.Rows.{row_has};
+ghost use Rattle.lara_semiring.specs.declared.value.ValType.TheVariants.{Count};
+ghost use Rattle.lara_data.specs.KeyedTables.{all_have};
+
+use crate::{Assoc, agg, join, union};
+use lara_base::{Copied, List, Name};
+use lara_data::{Entry, KeyCol, TableType, ValCol};
+use lara_key::{KeyType, KeyVal};
+use lara_semiring::{ValType, Value};
+use std::alloc::{AllocError, Global};
+use std::test::Fail;
+
+// The name of one letter. In the contracts below 105 is i, 106 j, 107 k, 118 v and 119 w.
+fn name(alloc: Global, letter: u8) -> Result<Name, AllocError>
+    ensures { IfOk result (λ n. n ≡ letter ∷ []) }
+{
+    match Name::new(List::from_slice(alloc, &[letter])?) {
+        Some(name) => Ok(name),
+        None => Err(AllocError),
+    }
+}
+
+fn key_col(alloc: Global, letter: u8) -> Result<KeyCol, AllocError>
+    ensures { IfOk result (λ k. k ≡ record { name = letter ∷ []; ty = Nat }) }
+{
+    Ok(KeyCol {
+        name: name(alloc, letter)?,
+        ty: KeyType::Nat,
+    })
+}
+
+fn val_col(alloc: Global, letter: u8) -> Result<ValCol, AllocError>
+    ensures { IfOk result (λ v. v ≡ record { name = letter ∷ []; ty = Count }) }
+{
+    Ok(ValCol {
+        name: name(alloc, letter)?,
+        ty: ValType::Count,
+    })
+}
+
+fn typed(keys: List<KeyCol>, vals: List<ValCol>) -> Result<TableType, AllocError>
+    ensures { IfOk result (λ t. t ≡ record { keys = keys; vals = vals }) }
+{
+    match TableType::new(keys, vals) {
+        Some(ty) => Ok(ty),
+        None => Err(AllocError),
+    }
+}
+
+// The type with two key columns and one value column.
+fn matrix_type(alloc: Global, i: u8, j: u8, v: u8) -> Result<TableType, AllocError>
+    ensures { IfOk result (λ t. t ≡ record { keys = record { name = i ∷ []; ty = Nat } ∷ record { name = j ∷ []; ty = Nat } ∷ []; vals = record { name = v ∷ []; ty = Count } ∷ [] }) }
+{
+    let mut keys = List::new(alloc);
+    keys.push(key_col(alloc, i)?)?;
+    keys.push(key_col(alloc, j)?)?;
+    let mut vals = List::new(alloc);
+    vals.push(val_col(alloc, v)?)?;
+    typed(keys, vals)
+}
+
+// The type with one key column and one value column.
+fn vector_type(alloc: Global, i: u8, v: u8) -> Result<TableType, AllocError>
+    ensures { IfOk result (λ t. t ≡ record { keys = record { name = i ∷ []; ty = Nat } ∷ []; vals = record { name = v ∷ []; ty = Count } ∷ [] }) }
+{
+    let mut keys = List::new(alloc);
+    keys.push(key_col(alloc, i)?)?;
+    let mut vals = List::new(alloc);
+    vals.push(val_col(alloc, v)?)?;
+    typed(keys, vals)
+}
+
+// The type with one key column and two value columns.
+fn pairs_type(alloc: Global, i: u8, v: u8, w: u8) -> Result<TableType, AllocError>
+    ensures { IfOk result (λ t. t ≡ record { keys = record { name = i ∷ []; ty = Nat } ∷ []; vals = record { name = v ∷ []; ty = Count } ∷ record { name = w ∷ []; ty = Count } ∷ [] }) }
+{
+    let mut keys = List::new(alloc);
+    keys.push(key_col(alloc, i)?)?;
+    let mut vals = List::new(alloc);
+    vals.push(val_col(alloc, v)?)?;
+    vals.push(val_col(alloc, w)?)?;
+    typed(keys, vals)
+}
+
+#[tactic(auto, unfolding(lara_semiring::specs::Rows::row_has, lara_semiring::specs::Values::has_type))]
+fn single(alloc: Global, key: &[u64], v: u64) -> Result<Entry, AllocError>
+    ensures { IfOk result (λ e. row_has (Count ∷ []) e.row ≡ true) }
+{
+    let mut row = List::new(alloc);
+    row.push(Value::Count(v))?;
+    Ok(Entry {
+        key: tuple(alloc, key)?,
+        row,
+    })
+}
+
+#[tactic(auto, unfolding(lara_semiring::specs::Rows::row_has, lara_semiring::specs::Values::has_type))]
+fn double(alloc: Global, key: &[u64], v: u64, w: u64) -> Result<Entry, AllocError>
+    ensures { IfOk result (λ e. row_has (Count ∷ Count ∷ []) e.row ≡ true) }
+{
+    let mut row = List::new(alloc);
+    row.push(Value::Count(v))?;
+    row.push(Value::Count(w))?;
+    Ok(Entry {
+        key: tuple(alloc, key)?,
+        row,
+    })
+}
+
+fn tuple(alloc: Global, numbers: &[u64]) -> Result<List<KeyVal>, AllocError> {
+    let mut key = List::new(alloc);
+    for n in numbers {
+        key.push(KeyVal::Nat(*n))?;
+    }
+    Ok(key)
+}
+
+#[tactic(auto, using(lara_data::specs::KeyedTypes::all_have_steps))]
+fn singles(alloc: Global, cells: &[(&[u64], u64)]) -> Result<List<Entry>, AllocError>
+    ensures { IfOk result (λ es. all_have (Count ∷ []) es ≡ true) }
+{
+    let mut entries = List::new(alloc);
+    for (key, v) in cells {
+        entries.push(single(alloc, key, *v)?)?;
+    }
+    Ok(entries)
+}
+
+#[tactic(auto, unfolding(lara_data::specs::Tables::table_of))]
+fn matrix(alloc: Global, i: u8, j: u8, cells: &[(&[u64], u64)]) -> Result<Assoc, AllocError>
+    ensures { IfOk result (λ a. a.ty ≡ record { keys = record { name = i ∷ []; ty = Nat } ∷ record { name = j ∷ []; ty = Nat } ∷ []; vals = record { name = 118 ∷ []; ty = Count } ∷ [] }) }
+{
+    let ty = matrix_type(alloc, i, j, b'v')?;
+    let entries = singles(alloc, cells)?;
+    Assoc::total(alloc, &ty, &entries)
+}
+
+#[tactic(auto, unfolding(lara_data::specs::Tables::table_of))]
+fn vector(alloc: Global, v: u8, cells: &[(&[u64], u64)]) -> Result<Assoc, AllocError>
+    ensures { IfOk result (λ a. a.ty ≡ record { keys = record { name = 105 ∷ []; ty = Nat } ∷ []; vals = record { name = v ∷ []; ty = Count } ∷ [] }) }
+{
+    let ty = vector_type(alloc, b'i', v)?;
+    let entries = singles(alloc, cells)?;
+    Assoc::total(alloc, &ty, &entries)
+}
+
+// The table over i with the values v and w, and one entry.
+#[tactic(auto, unfolding(lara_data::specs::Tables::table_of), using(lara_data::specs::KeyedTypes::all_have_steps))]
+fn one_pair(alloc: Global, i: u64, v: u64, w: u64) -> Result<Assoc, AllocError>
+    ensures { IfOk result (λ a. a.ty ≡ record { keys = record { name = 105 ∷ []; ty = Nat } ∷ []; vals = record { name = 118 ∷ []; ty = Count } ∷ record { name = 119 ∷ []; ty = Count } ∷ [] }) }
+{
+    let ty = pairs_type(alloc, b'i', b'v', b'w')?;
+    let mut entries = List::new(alloc);
+    entries.push(double(alloc, &[i], v, w)?)?;
+    Assoc::total(alloc, &ty, &entries)
+}
+
+// The join of a table over i, k and one over k, j.
+#[tactic(auto, unfolding(lara_data::specs::Algebra::join_tables, lara_data::specs::Names::has, lara_data::specs::Names::same_name, lara_data::specs::Vals::has_col, lara_data::specs::Vals::same_col))]
+fn product(
+    alloc: Global,
+    left: &[(&[u64], u64)],
+    right: &[(&[u64], u64)],
+) -> Result<Assoc, AllocError>
+    ensures { IfOk result (λ a. a.ty ≡ record { keys = record { name = 105 ∷ []; ty = Nat } ∷ record { name = 107 ∷ []; ty = Nat } ∷ record { name = 106 ∷ []; ty = Nat } ∷ []; vals = record { name = 118 ∷ []; ty = Count } ∷ [] }) }
+{
+    let a = matrix(alloc, b'i', b'k', left)?;
+    let b = matrix(alloc, b'k', b'j', right)?;
+    join(alloc, &a, &b)
+}
+
+fn names_ij(alloc: Global) -> Result<List<Name>, AllocError>
+    ensures { IfOk result (λ ns. ns ≡ (105 ∷ []) ∷ (106 ∷ []) ∷ []) }
+{
+    let mut names = List::new(alloc);
+    names.push(name(alloc, b'i')?)?;
+    names.push(name(alloc, b'j')?)?;
+    Ok(names)
+}
+
+// The product summed by i and j.
+fn summed(
+    alloc: Global,
+    left: &[(&[u64], u64)],
+    right: &[(&[u64], u64)],
+) -> Result<Assoc, AllocError> {
+    let all = product(alloc, left, right)?;
+    let names = names_ij(alloc)?;
+    agg(alloc, &all, &names)
+}
+
+// The union of a table of v by i and one of w by i.
+fn both(
+    alloc: Global,
+    left: &[(&[u64], u64)],
+    right: &[(&[u64], u64)],
+) -> Result<Assoc, AllocError> {
+    let a = vector(alloc, b'v', left)?;
+    let b = vector(alloc, b'w', right)?;
+    union(alloc, &a, &b)
+}
+
+// The join of two tables of one entry by i with the values v and w.
+fn joined_pairs(alloc: Global, left: (u64, u64), right: (u64, u64)) -> Result<Assoc, AllocError> {
+    let a = one_pair(alloc, 1, left.0, left.1)?;
+    let b = one_pair(alloc, 1, right.0, right.1)?;
+    join(alloc, &a, &b)
+}
+
+fn is_key(key: &[KeyVal], want: &[u64]) -> bool {
+    if key.len() != want.len() {
+        return false;
+    }
+    for (i, k) in key.iter().enumerate() {
+        if *k != KeyVal::Nat(want[i]) {
+            return false;
+        }
+    }
+    true
+}
+
+fn is_row(row: &[Value], want: &[u64]) -> bool {
+    if row.len() != want.len() {
+        return false;
+    }
+    for (i, v) in row.iter().enumerate() {
+        let Value::Count(n) = *v;
+        if n != want[i] {
+            return false;
+        }
+    }
+    true
+}
+
+fn are(entries: &[Entry], want: &[(&[u64], &[u64])]) -> bool {
+    if entries.len() != want.len() {
+        return false;
+    }
+    for (i, entry) in entries.iter().enumerate() {
+        let (key, row) = want[i];
+        if !is_key(entry.key.as_slice(), key) || !is_row(entry.row.as_slice(), row) {
+            return false;
+        }
+    }
+    true
+}
+
+#[test]
+fn a_product_has_an_entry_for_each_two_that_agree(rt: HostRuntime) -> Result<(), Fail> {
+    let alloc = rt.alloc();
+    let all = product(
+        alloc,
+        &[(&[1, 1], 2), (&[1, 2], 3)],
+        &[(&[1, 5], 10), (&[2, 5], 100)],
+    )?;
+    let entries = all.entries(alloc)?;
+    assert!(rt;
+        are(
+            entries.as_slice(),
+            &[(&[1, 1, 5], &[20]), (&[1, 2, 5], &[300])]
+        )
+    );
+    assert_eq!(rt; all.ty().keys.len(), 3);
+    assert_eq!(rt; all.ty().vals.len(), 1);
+    assert!(rt; all.is_in_range());
+    Ok(())
+}
+
+#[test]
+fn the_sum_of_a_product_is_the_product_of_matrices(rt: HostRuntime) -> Result<(), Fail> {
+    let alloc = rt.alloc();
+    let sums = summed(
+        alloc,
+        &[(&[1, 1], 2), (&[1, 2], 3)],
+        &[(&[1, 5], 10), (&[2, 5], 100)],
+    )?;
+    let entries = sums.entries(alloc)?;
+    assert!(rt; are(entries.as_slice(), &[(&[1, 5], &[320])]));
+    assert_eq!(rt; sums.ty().keys.len(), 2);
+    Ok(())
+}
+
+#[test]
+fn a_union_has_the_values_of_both(rt: HostRuntime) -> Result<(), Fail> {
+    let alloc = rt.alloc();
+    let all = both(alloc, &[(&[1], 5)], &[(&[1], 7), (&[2], 9)])?;
+    let entries = all.entries(alloc)?;
+    assert!(rt; are(entries.as_slice(), &[(&[1], &[5, 7]), (&[2], &[0, 9])]));
+    assert_eq!(rt; all.ty().keys.len(), 1);
+    assert_eq!(rt; all.ty().vals.len(), 2);
+    Ok(())
+}
+
+#[test]
+fn a_product_of_zeros_is_no_entry(rt: HostRuntime) -> Result<(), Fail> {
+    let alloc = rt.alloc();
+    let none = joined_pairs(alloc, (3, 0), (0, 4))?;
+    assert_eq!(rt; none.entries(alloc)?.len(), 0);
+    let some = joined_pairs(alloc, (3, 2), (0, 4))?;
+    assert!(rt; are(some.entries(alloc)?.as_slice(), &[(&[1], &[0, 8])]));
+    Ok(())
+}
+
+#[test]
+fn a_copy_has_the_same_entries(rt: HostRuntime) -> Result<(), Fail> {
+    let alloc = rt.alloc();
+    let a = matrix(alloc, b'i', b'j', &[(&[2, 5], 10), (&[1, 6], 2)])?;
+    let copy = a.copy(alloc)?;
+    let entries = copy.entries(alloc)?;
+    assert!(rt; are(entries.as_slice(), &[(&[1, 6], &[2]), (&[2, 5], &[10])]));
+    assert_eq!(rt; copy.ty().keys.len(), 2);
+    Ok(())
+}
+
+#[test]
+fn entries_are_stored_in_the_order_of_the_columns(rt: HostRuntime) -> Result<(), Fail> {
+    let alloc = rt.alloc();
+    let a = matrix(alloc, b'i', b'j', &[(&[2, 5], 10), (&[1, 6], 2)])?;
+    let mut order = List::new(alloc);
+    order.push(name(alloc, b'j')?)?;
+    order.push(name(alloc, b'i')?)?;
+    let entries = a.stored(alloc, &order)?;
+    assert!(rt; are(entries.as_slice(), &[(&[5, 2], &[10]), (&[6, 1], &[2])]));
+    Ok(())
+}
+
+#[test]
+fn a_sum_past_the_range_is_out_of_range(rt: HostRuntime) -> Result<(), Fail> {
+    let alloc = rt.alloc();
+    let most = u64::MAX - 1;
+    let full = vector(alloc, b'v', &[(&[most], 1), (&[1], most - 1), (&[1], 1)])?;
+    assert!(rt; full.is_in_range());
+    let past = vector(alloc, b'v', &[(&[1], most), (&[1], 1)])?;
+    assert!(rt; !past.is_in_range());
+    let far = vector(alloc, b'v', &[(&[u64::MAX], 1)])?;
+    assert!(rt; !far.is_in_range());
+    Ok(())
+}

@@ -1,0 +1,61 @@
+//! The table of a tree.
+ghost use Rattle.std.specs.Prelude.{◌≡◌, [], IfOk};
+ghost use Rattle.lara_data.specs.Plugins.{handed};
+ghost use Rattle.lara_data.specs.Tables.{table_of as table_of_entries};
+ghost use Rattle.lara_data.specs.Denotations.{meaning_of};
+ghost use Rattle.lara_assoc.specs.Meant.{IsMeant};
+
+use crate::aggs::agg;
+use crate::assoc::Assoc;
+use crate::joins::join;
+use crate::named::{NamedTable, copy_named};
+use crate::unions::union;
+use lara_base::List;
+use lara_data::{Node, Op, Plugin, TableType};
+use std::alloc::{AllocError, Global};
+
+// The table without entries.
+fn nothing(alloc: Global, ty: &TableType) -> Result<Assoc, AllocError>
+    ensures { IfOk result (λ t. t ≡ table_of_entries ty.now []) }
+{
+    let entries = List::new(alloc);
+    Assoc::total(alloc, ty, &entries)
+}
+
+/// The table of a tree over stored tables and those that a script assigned so far.
+pub fn table_of(
+    alloc: Global,
+    plugins: &Vec<Box<dyn Plugin>>,
+    db: &List<NamedTable>,
+    tables: &List<NamedTable>,
+    node: &Node,
+) -> Result<Assoc, AllocError>
+    requires { IsMeant (handed ⟦<dyn Plugin as Plugin>⟧ plugins.now.items) db.now tables.now node.now }
+    ensures { IfOk result (λ t. t ≡ meaning_of (handed ⟦<dyn Plugin as Plugin>⟧ plugins.now.items) db.now tables.now node.now) }
+{
+    match &node.op {
+        Op::Load(name) => copy_named(alloc, db, name, &node.ty),
+        Op::Named(name) => copy_named(alloc, tables, name, &node.ty),
+        Op::Literal(entries) => Assoc::total(alloc, &node.ty, entries),
+        Op::Join(a, b) => {
+            let left = table_of(alloc, plugins, db, tables, a.get())?;
+            let right = table_of(alloc, plugins, db, tables, b.get())?;
+            join(alloc, &left, &right)
+        }
+        Op::Union(a, b) => {
+            let left = table_of(alloc, plugins, db, tables, a.get())?;
+            let right = table_of(alloc, plugins, db, tables, b.get())?;
+            union(alloc, &left, &right)
+        }
+        Op::Agg(a, keys) => {
+            let table = table_of(alloc, plugins, db, tables, a.get())?;
+            agg(alloc, &table, keys)
+        }
+        // No typed tree has one of these yet.
+        Op::Map(_, _) => nothing(alloc, &node.ty),
+        Op::Filter(_, _) => nothing(alloc, &node.ty),
+        Op::Promote(_, _) => nothing(alloc, &node.ty),
+        Op::Rename(_, _) => nothing(alloc, &node.ty),
+        Op::Apply(_, _) => nothing(alloc, &node.ty),
+    }
+}

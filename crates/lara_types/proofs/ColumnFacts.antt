@@ -1,0 +1,65 @@
+-- Columns by their names.
+use Rattle.std.specs.Prelude.{◌≡◌, ◌<◌, ◌+◌, ℕ, Bool, true, false, ◌||◌, List, [], ◌∷◌, ◌++◌, take, length}
+use Rattle.std.specs.Bool.{IsTrue}
+use Rattle.std.proofs.Common.{refl, sym, ap, ◌∙◌, get_or, add-one, rules}
+use Rattle.std.proofs.Math.Seq.{take-suc}
+use Rattle.std.proofs.lemmas.Grind.{flat_map-append}
+use Rattle.std.proofs.lemmas.List.{append-nil}
+use Rattle.std.specs.Str.{bytes_eq}
+use Rattle.std.proofs.lemmas.Slice.Eq.{bytes_eq-Decides}
+use Rattle.lara_data.specs.declared.table_type.KeyCol.{KeyCol}
+use Rattle.lara_data.specs.declared.table_type.ValCol.{ValCol}
+use Rattle.lara_data.specs.TableTypes.{Columns, key_names, has_key, are_columns}
+use Rattle.lara_data.specs.Names.{Name, same_name, has, among, distinct}
+use Rattle.lara_data.specs.Algebra.{key_col, key_cols, join_columns, union_columns, agg_columns}
+use Rattle.lara_data.specs.TypeRules.{types_differ, is_none, too_many}
+use Rattle.lara_data.specs.TypeRuleLaws.{join_are_columns, union_are_columns, agg_are_columns}
+use Rattle.lara_data.specs.Sequences.{equal_tests}
+
+turned : (a b : Name) → same_name b a ≡ bytes_eq a b
+unfolding same_name
+turned a b = equal_tests (bytes_eq b a) (bytes_eq a b) (λ e. (bytes_eq-Decides a b).1 (sym ((bytes_eq-Decides b a).0 e))) (λ e. (bytes_eq-Decides b a).1 (sym ((bytes_eq-Decides a b).0 e)))
+
+pub has_names : (keys : List KeyCol) (n : Name) → has (key_names keys) n ≡ has_key n keys
+unfolding has
+has_names [] n = refl
+has_names (k ∷ keys) n = λ i. turned k.name n i || has_names keys n i
+
+pub from_true : (b : Bool) → IsTrue b → b ≡ true
+from_true true h = refl
+from_true false h = search rules
+
+pub to_true : (b : Bool) → b ≡ true → IsTrue b
+to_true true h = search rules
+to_true false h = cc
+
+key_cols-append : (keys : List KeyCol) (ns ms : List Name) → key_cols keys (ns ++ ms) ≡ key_cols keys ns ++ key_cols keys ms
+unfolding key_cols
+key_cols-append keys ns ms = flat_map-append (key_col keys) ns ms
+
+key_cols-one : (keys : List KeyCol) (n : Name) → key_cols keys (n ∷ []) ≡ key_col keys n
+unfolding key_cols
+key_cols-one keys n = append-nil (key_col keys n)
+
+pub key_cols-none : (keys : List KeyCol) → key_cols keys [] ≡ []
+unfolding key_cols
+key_cols-none keys = refl
+
+-- the columns of one name more
+pub key_cols-more : (keys : List KeyCol) (ns : List Name) (i : ℕ) (n : Name) → i < length ns → n ≡ get_or ns i n → key_cols keys (take (i + 1) ns) ≡ key_cols keys (take i ns) ++ key_col keys n
+key_cols-more keys ns i n h here = rw (add-one, take-suc ns i n h, ← here, key_cols-append keys (take i ns) (n ∷ []), key_cols-one keys n) refl
+
+-- the columns that were made are a table's
+of_columns : (c : Columns) (keys : List KeyCol) (vals : List ValCol) → keys ≡ c.keys → vals ≡ c.vals → are_columns c.keys c.vals ≡ true → IsTrue (are_columns keys vals)
+of_columns c keys vals k v h = to_true (are_columns keys vals) ((λ i. are_columns (k i) (v i)) ∙ h)
+
+pub joined : (a b : Columns) (keys : List KeyCol) (vals : List ValCol) → keys ≡ (join_columns a b).keys → vals ≡ (join_columns a b).vals → IsTrue (are_columns a.keys a.vals) → IsTrue (are_columns b.keys b.vals) → false ≡ is_none vals → false ≡ too_many (record { keys = keys; vals = vals }) → IsTrue (are_columns keys vals)
+joined a b keys vals k v p q n m =
+    of_columns (join_columns a b) keys vals k v (join_are_columns a b (from_true (are_columns a.keys a.vals) p) (from_true (are_columns b.keys b.vals) q) (sym (n ∙ ap is_none v)) (sym (m ∙ (λ i. too_many (record { keys = k i; vals = v i })))))
+
+pub united : (a b c d : Columns) (keys : List KeyCol) (vals : List ValCol) → keys ≡ (union_columns a b).keys → vals ≡ (union_columns a b).vals → IsTrue (are_columns a.keys a.vals) → IsTrue (are_columns b.keys b.vals) → a ≡ c → b ≡ d → false ≡ types_differ c d → false ≡ too_many (record { keys = keys; vals = vals }) → IsTrue (are_columns keys vals)
+united a b c d keys vals k v p q e f t m =
+    of_columns (union_columns a b) keys vals k v (union_are_columns a b (from_true (are_columns a.keys a.vals) p) (from_true (are_columns b.keys b.vals) q) ((λ i. types_differ (e i) (f i)) ∙ sym t) (sym (m ∙ (λ i. too_many (record { keys = k i; vals = v i })))))
+
+pub summed : (a : Columns) (own : List KeyCol) (ks ls ms : List Name) (keys : List KeyCol) (vals : List ValCol) → keys ≡ (agg_columns a ks).keys → vals ≡ (agg_columns a ks).vals → IsTrue (are_columns a.keys a.vals) → own ≡ a.keys → ls ≡ ks → ms ≡ ks → true ≡ among (key_names own) ls → true ≡ distinct ms → IsTrue (are_columns keys vals)
+summed a own ks ls ms keys vals k v p o l m h d = of_columns (agg_columns a ks) keys vals k v (agg_are_columns a ks (from_true (are_columns a.keys a.vals) p) (sym (h ∙ (λ i. among (key_names (o i)) (l i)))) (sym (d ∙ ap distinct m)))

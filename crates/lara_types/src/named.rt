@@ -1,0 +1,71 @@
+//! Names among names, and columns by their names.
+ghost use Rattle.std.specs.Prelude.{◌≡◌};
+ghost use Rattle.lara_data.specs.Names.{has, among, distinct};
+ghost use Rattle.lara_data.specs.TableTypes.{has_key, has_val, key_names};
+
+use lara_base::Name;
+use lara_data::{KeyCol, ValCol};
+
+/// Whether a key column has the name.
+pub fn has_key(keys: &[KeyCol], name: &Name) -> bool
+    ensures { result ≡ has_key name.now keys.now }
+{
+    keys.iter().any(|k| k.name.same(name))
+}
+
+/// Whether a value column has the name.
+pub fn has_val(vals: &[ValCol], name: &Name) -> bool
+    ensures { result ≡ has_val name.now vals.now }
+{
+    vals.iter().any(|v| v.name.same(name))
+}
+
+/// Whether the name is a key column's.
+#[tactic(auto, using(crate::proofs::ColumnFacts::has_names))]
+pub fn is_key_name(keys: &[KeyCol], name: &Name) -> bool
+    ensures { result ≡ has (key_names keys.now) name.now }
+{
+    has_key(keys, name)
+}
+
+/// Whether a name is among others.
+#[tactic(auto, unfolding(lara_data::specs::Names::has, lara_data::specs::Names::same_name))]
+pub fn has(names: &[Name], name: &Name) -> bool
+    ensures { result ≡ has names.now name.now }
+{
+    names.iter().any(|n| name.same(n))
+}
+
+/// Whether each of the names is a key column's.
+#[tactic(auto, unfolding(lara_data::specs::Names::among))]
+pub fn are_key_names(keys: &[KeyCol], names: &[Name]) -> bool
+    ensures { result ≡ among (key_names keys.now) names.now }
+{
+    match names {
+        [] => true,
+        [first, rest @ ..] => {
+            if is_key_name(keys, first) {
+                are_key_names(keys, rest)
+            } else {
+                false
+            }
+        }
+    }
+}
+
+/// Whether no name stands twice. Where the names are among a few, this takes that many turns over them at most.
+#[tactic(auto, unfolding(lara_data::specs::Names::distinct))]
+pub fn are_distinct(names: &[Name]) -> bool
+    ensures { result ≡ distinct names.now }
+{
+    match names {
+        [] => true,
+        [first, rest @ ..] => {
+            if has(rest, first) {
+                false
+            } else {
+                are_distinct(rest)
+            }
+        }
+    }
+}
