@@ -1,0 +1,42 @@
+//! The words of a call: which command they are.
+ghost use Rattle.std.specs.Prelude.{◌≡◌};
+ghost use Rattle.lara.specs.Words.{command_of, name_of};
+ghost use Rattle.lara.specs.Endings.{Gives, no_fault};
+
+use crate::outcome::Outcome;
+use lara_base::{List, Word};
+
+/// A command.
+#[derive(Clone, Copy, Debug, PartialEq, Eq)]
+pub enum Command {
+    /// Runs a script.
+    Run,
+}
+
+// The command of this name.
+fn named(word: &[u8]) -> Result<Command, Outcome>
+    ensures { Gives (λ c. c) no_fault (name_of word.now) result }
+{
+    if word == b"run".as_slice() {
+        Ok(Command::Run)
+    } else {
+        Err(Outcome::Usage { at: 0 })
+    }
+}
+
+/// The command that the words are.
+pub fn read_command(words: &List<Word>) -> Result<Command, Outcome>
+    ensures { Gives (λ c. c) no_fault (command_of words.now) result }
+{
+    match words.as_slice() {
+        [] => Err(Outcome::Usage { at: 0 }),
+        [word, rest @ ..] => {
+            let command = named(word.as_slice())?;
+            if rest.is_empty() {
+                Ok(command)
+            } else {
+                Err(Outcome::Usage { at: 1 })
+            }
+        }
+    }
+}
