@@ -1,7 +1,6 @@
 -- What a tree means, and what a script means: the tables that its names get, and what it prints and stores.
 use Rattle.std.specs.Prelude.{ℕ, ◌+◌, fold, List, [], ◌∷◌, ◌++◌, map, Option, Some, None, if◌then◌else◌}
 use Rattle.std.specs.List.{flat_map}
-use Rattle.lara_data.specs.declared.arg.Call.{Call}
 use Rattle.lara_data.specs.declared.node.Node.{Node}
 use Rattle.lara_data.specs.declared.node.Op.{Op}
 use Rattle.lara_data.specs.declared.node.Op.TheBlock.{end_of-Node, more_of-Node}
@@ -113,11 +112,19 @@ abbrev pub store_of : ℕ → Name → Option Table → List Stored
 store_of statement name None = []
 store_of statement name (Some table) = record { statement = statement; name = name; table = table } ∷ []
 
+-- after a print
+abbrev pub after_printing : Running → Name → List Name → Running
+after_printing r name order = record { statement = r.statement + 1; tables = r.tables; prints = r.prints ++ print_of (r.statement + 1) name order (table_named name r.tables); stores = r.stores }
+
+-- after a store
+abbrev pub after_storing : Running → Name → Name → Running
+after_storing r old new = record { statement = r.statement + 1; tables = r.tables; prints = r.prints; stores = r.stores ++ store_of (r.statement + 1) new (table_named old r.tables) }
+
 -- after one more statement; what is stored does not change what is loaded
 abbrev pub after : Plugins → Database → Running → Statement → Running
 after ps db r (Assign name node) = record { statement = r.statement + 1; tables = r.tables ++ record { name = name; table = meaning_of ps db r.tables node } ∷ []; prints = r.prints; stores = r.stores }
-after ps db r (Print name order) = record { statement = r.statement + 1; tables = r.tables; prints = r.prints ++ print_of (r.statement + 1) name order (table_named name r.tables); stores = r.stores }
-after ps db r (Store old new) = record { statement = r.statement + 1; tables = r.tables; prints = r.prints; stores = r.stores ++ store_of (r.statement + 1) new (table_named old r.tables) }
+after ps db r (Print name order) = after_printing r name order
+after ps db r (Store old new) = after_storing r old new
 
 abbrev pub before_all : Running
 before_all = record { statement = 0; tables = []; prints = []; stores = [] }

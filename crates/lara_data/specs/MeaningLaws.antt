@@ -1,12 +1,11 @@
 -- A typed tree that fits its database means a table of its node's type.
-use Rattle.std.specs.Prelude.{◌≡◌, true, false, cond, fold, List, [], ◌∷◌, ◌++◌, Option, Some, None, Result, Ok}
+use Rattle.std.specs.Prelude.{◌≡◌, true, false, cond, fold, List, [], ◌∷◌, ◌++◌, Option, Some, None}
 use Rattle.std.proofs.Common.{refl, sym, ap, ◌∙◌, subst}
-use Rattle.lara_data.specs.declared.node.Node.{Node}
 use Rattle.lara_data.specs.declared.node.Op.{Op}
 use Rattle.lara_data.specs.declared.node.Op.TheBlock.{end_of-Node, more_of-Node}
 use Rattle.lara_data.specs.declared.node.Op.TheVariants.{Load, Named, Literal, Join', Union', Agg', Map', Filter', Promote', Rename', Apply'}
 use Rattle.lara_data.specs.declared.schema.Schema.{Schema}
-use Rattle.lara_data.specs.TableTypes.{Columns, key_names, are_columns}
+use Rattle.lara_data.specs.TableTypes.{Columns, key_names}
 use Rattle.lara_data.specs.Names.{Name, same_name, among}
 use Rattle.lara_data.specs.Tables.{Entries, Table, table_of}
 use Rattle.lara_data.specs.Algebra.{common_vals, join_columns, union_columns, agg_columns, join_tables, union_tables, agg_table}

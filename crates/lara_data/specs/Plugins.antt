@@ -1,5 +1,5 @@
 -- The list of plugins that a call is handed, asked through what the trait says that each means.
-use Rattle.std.specs.Prelude.{◌≡◌, ℕ, List, [], ◌∷◌, map, Option, Some, None, if◌then◌else◌}
+use Rattle.std.specs.Prelude.{◌≡◌, List, [], ◌∷◌, Option, Some, None, if◌then◌else◌}
 use Rattle.std.specs.declared.dyn_box.DynBox.{DynBox}
 use Rattle.lara_key.specs.declared.key.KeyType.{KeyType}
 use Rattle.lara_data.specs.declared.arg.Arg.{Arg}

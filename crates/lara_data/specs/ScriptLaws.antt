@@ -1,5 +1,5 @@
 -- Scripts statement by statement: what stays typed, what fits, and which tables stand for the names.
-use Rattle.std.specs.Prelude.{◌≡◌, ℕ, ◌<◌, Bool, true, false, cond, fold, not, ◌&&◌, ◌||◌, List, [], ◌∷◌, ◌++◌, length, take, map, Option, Some, None, if◌then◌else◌}
+use Rattle.std.specs.Prelude.{◌≡◌, ℕ, ◌<◌, true, false, cond, fold, not, ◌||◌, List, [], ◌∷◌, ◌++◌, length, take, map, Option, Some, None, if◌then◌else◌}
 use Rattle.std.proofs.Common.{refl, sym, ap, ◌∙◌, subst, arith, get_or, zero, suc}
 use Rattle.lara_data.specs.declared.schema.Schema.{Schema}
 use Rattle.lara_data.specs.declared.script.Statement.{Statement}
@@ -9,7 +9,7 @@ use Rattle.lara_data.specs.Names.{Name, same_name, same_name_is, same_name_itsel
 use Rattle.lara_data.specs.Tables.{Table}
 use Rattle.lara_data.specs.TypedScripts.{StatementTyped, known_after, all_known, AllTyped, ScriptTyped}
 use Rattle.lara_data.specs.Plugins.{Plugins}
-use Rattle.lara_data.specs.Denotations.{NamedTable, Database, newer_table, table_named, meaning, Running, after, before_all, after_all, Stored, with_table, after_stores}
+use Rattle.lara_data.specs.Denotations.{Database, newer_table, table_named, meaning, Running, after, before_all, after_all, Stored, with_table, after_stores}
 use Rattle.lara_data.specs.Fits.{TablesTyped, TablesOf, StatementFits, ScriptFits}
 use Rattle.lara_data.specs.MeaningLaws.{Stands, TablesOf-more, IsTableOf-meaning}
 

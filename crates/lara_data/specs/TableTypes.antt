@@ -1,9 +1,10 @@
 -- What the type of a table is.
-use Rattle.std.specs.Prelude.{ℕ, Bool, true, ◌&&◌, not, nat_lt, List, [], ◌∷◌, length, map, Option, Some, None, if◌then◌else◌}
+use Rattle.std.specs.Prelude.{ℕ, ◌+◌, Bool, true, ◌&&◌, not, nat_lt, List, [], ◌∷◌, length, map, Option, Some, None, if◌then◌else◌}
 use Rattle.std.specs.List.{list_any}
 use Rattle.std.specs.Str.{bytes_eq}
 use Rattle.lara_key.specs.declared.key.KeyType.{KeyType}
 use Rattle.lara_semiring.specs.declared.value.ValType.{ValType}
+use Rattle.lara_data.specs.declared.limits.TheConstants.{MAX_COLS}
 use Rattle.lara_data.specs.declared.table_type.KeyCol.{KeyCol}
 use Rattle.lara_data.specs.declared.table_type.ValCol.{ValCol}
 
@@ -42,9 +43,9 @@ abbrev pub are_distinct : List KeyCol → List ValCol → Bool
 are_distinct [] vals = are_vals_distinct vals
 are_distinct (k ∷ ks) vals = not (has_key k.name ks) && not (has_val k.name vals) && are_distinct ks vals
 
--- at most 8 key columns, 1 to 8 value columns, and distinct names
+-- at most MAX_COLS key columns, 1 to MAX_COLS value columns, and distinct names
 unfoldable pub are_columns : List KeyCol → List ValCol → Bool
-are_columns keys vals = nat_lt (length keys) 9 && nat_lt 0 (length vals) && nat_lt (length vals) 9 && are_distinct keys vals
+are_columns keys vals = nat_lt (length keys) (MAX_COLS + 1) && nat_lt 0 (length vals) && nat_lt (length vals) (MAX_COLS + 1) && are_distinct keys vals
 
 -- the type with these columns, where there is one
 abbrev pub typed_columns : List KeyCol → List ValCol → Option Columns

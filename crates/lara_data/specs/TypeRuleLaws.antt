@@ -1,25 +1,23 @@
 -- The columns that the type rules give are a table's, and what the rules keep.
-use Rattle.std.specs.Prelude.{◌≡◌, ℕ, ◌≤◌, ◌<◌, Bool, true, false, cond, ◌&&◌, ◌||◌, not, nat_lt, List, [], ◌∷◌, ◌++◌, length, filter, Result, Ok, Err}
+use Rattle.std.specs.Prelude.{◌≡◌, ◌≤◌, ◌<◌, Bool, true, false, cond, ◌&&◌, ◌||◌, not, nat_lt, List, [], ◌∷◌, ◌++◌, length, filter, Ok, Err}
 use Rattle.std.proofs.Common.{refl, sym, ap, ◌∙◌, arith, suc}
 use Rattle.std.specs.List.{list_any}
 use Rattle.std.specs.Str.{bytes_eq}
 use Rattle.std.proofs.Math.Bool.{and-false}
-use Rattle.std.proofs.lemmas.Bool.{ltb-true, ltb-false, lt-ltb}
+use Rattle.std.proofs.lemmas.Bool.{ltb-true, ltb-false, lt-ltb, and_parts, and_from, or_parts}
 use Rattle.std.proofs.lemmas.List.{length-map}
 use Rattle.std.proofs.lemmas.List.Folds.{list_any-append}
 use Rattle.std.proofs.lemmas.Slice.Eq.{bytes_eq-Decides}
-use Rattle.lara_data.specs.declared.refusal.Kind.{Kind}
 use Rattle.lara_data.specs.declared.refusal.Kind.TheVariants.{NameTwice, TooManyColumns, TypesDiffer, NoCommonValue, NotAKey}
 use Rattle.lara_data.specs.declared.table_type.KeyCol.{KeyCol}
 use Rattle.lara_data.specs.declared.table_type.ValCol.{ValCol}
 use Rattle.lara_data.specs.TableTypes.{Columns, key_names, has_key, has_val, are_vals_distinct, are_distinct, are_columns}
-use Rattle.std.proofs.lemmas.Bool.{and_parts, and_from, or_parts}
-use Rattle.lara_data.specs.Names.{Name, same_name, same_name_is, same_name_itself, has, has_head, has_tail, has_append, has_among, among, distinct, common, others, not_true}
+use Rattle.lara_data.specs.Names.{Name, same_name, same_name_is, has, has_head, has_tail, has_append, has_among, among, distinct, common, others, not_true}
 use Rattle.lara_data.specs.Vals.{Vals, same_type, same_col, same_col_is, same_col_itself, has_col}
 use Rattle.lara_data.specs.Sequences.{SameNames, SameNames-by, equal_tests, has_filter, has_others}
 use Rattle.lara_data.specs.DistinctNames.{distinct_filter, distinct_others, same_length}
 use Rattle.lara_data.specs.DistinctColumns.{distinct_key_names}
-use Rattle.lara_data.specs.Algebra.{heading, common_vals, all_vals, key_cols, join_columns, union_columns, agg_columns}
+use Rattle.lara_data.specs.Algebra.{common_vals, key_cols, join_columns, union_columns, agg_columns}
 use Rattle.lara_data.specs.Headings.{heading_join, heading_union, names_key_cols}
 use Rattle.lara_data.specs.TypeRules.{Typing, is_other_val, val_differs, key_differs, types_differ, is_none, too_many, few_enough, join_type, union_type, agg_type}
 
@@ -139,7 +137,7 @@ named_val (d ∷ ds) c h =
       | false ↦ λ s. or_second (bytes_eq d.name c.name) (has_val c.name ds) (named_val ds c (or_rest (same_col c d) (has_col ds c) s h))
     ] refl
 
--- a name that no (and_parts value column has).1 is none of a common one
+-- a name that no right value column has is none of a common one
 no_common : (n : Name) (cs ds : Vals) → has_val n ds ≡ false → has_val n (common_vals cs ds) ≡ false
 no_common n [] ds h = refl
 no_common n (c ∷ cs) ds h =
@@ -168,7 +166,7 @@ distinct_join a b p q d e =
 
 -- ---- union
 
--- where no types differ, a (and_parts value column of).1 a (and_parts one's name is).0 the (and_parts one  ).0
+-- where no types differ, a right value column of a left one's name is the left one
 same_by : (v d : ValCol) → is_other_val v d ≡ false → same_name v.name d.name ≡ true → same_col v d ≡ true
 unfolding same_col
 same_by v d h e = and_from (same_name v.name d.name) (same_type v.ty d.ty) e (by_two (same_name v.name d.name) (same_type v.ty d.ty) e h)
@@ -178,7 +176,7 @@ same_by v d h e = and_from (same_name v.name d.name) (same_type v.ty d.ty) e (by
     by_two true false e h = sym h
     by_two false q e h = cc
 
--- a (and_parts value column's name).0 is none of a right-only one
+-- a left value column's name is none of a right-only one
 not_right : (cs ds : Vals) (v : ValCol) → has_col cs v ≡ true → list_any (is_other_val v) ds ≡ false → has_val v.name (filter (λ d. not (has_col cs d)) ds) ≡ false
 not_right cs [] v h g = refl
 not_right cs (d ∷ ds) v h g =
@@ -199,7 +197,7 @@ vals_append (v ∷ vs) ws h g f =
     (ap not (no_val_append v.name vs ws fresh (f v (or_first (same_col v v) (has_col vs v) (same_col_itself v)))))
     (vals_append vs ws ((and_parts (not (has_val v.name vs)) (are_vals_distinct vs) h).1) g (λ w k. f w (or_second (same_col w v) (has_col vs w) k)))
 
--- what no value column of the (and_parts meets  ).0, none of these does
+-- what no value column of the left meets, none of these does
 at_col : (p : ValCol → Bool) (vs : Vals) (v : ValCol) → list_any p vs ≡ false → has_col vs v ≡ true → p v ≡ false
 unfolding has_col
 at_col p [] v h g = cc

@@ -1,5 +1,5 @@
 -- Which scripts are typed: each statement, where the names of the earlier ones are known.
-use Rattle.std.specs.Prelude.{◌≡◌, ℕ, Bool, true, fold, ◌&&◌, ◌==◌, List, [], ◌∷◌, ◌++◌, length, Option, Some, None}
+use Rattle.std.specs.Prelude.{◌≡◌, Bool, true, fold, ◌&&◌, ◌==◌, List, [], ◌∷◌, ◌++◌, length, Option, Some, None}
 use Rattle.std.specs.List.{list_all}
 use Rattle.lara_data.specs.declared.script.Statement.{Statement}
 use Rattle.lara_data.specs.declared.script.Statement.TheVariants.{Assign, Print, Store}

@@ -1,5 +1,5 @@
 -- Which trees are typed: every node has its type by the rules.
-use Rattle.std.specs.Prelude.{◌≡◌, Bool, true, fold, if◌then◌else◌, List, Option, Some, None, Result, Ok}
+use Rattle.std.specs.Prelude.{◌≡◌, true, fold, if◌then◌else◌, List, Option, Some, None, Ok}
 use Rattle.std.specs.List.{list_all}
 use Rattle.lara_data.specs.declared.node.Node.{Node}
 use Rattle.lara_data.specs.declared.node.Op.{Op}

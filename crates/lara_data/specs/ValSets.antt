@@ -88,7 +88,7 @@ brought_itself (c ∷ cs) r d =
     let there : map (λ e. cond (same_col e c) (first c.ty r) (read_val cs (rest r) e)) cs ≡ map (read_val cs (rest r)) cs = map_cols _ _ cs (λ e h. skip c e cs (first c.ty r) (read_val cs (rest r) e) fresh h) in
     λ i. here i ∷ (there ∙ brought_itself cs (rest r) (and_parts (not (has_col cs c)) (distinct_cols cs) d).1) i
 
--- ---- a row that is not default stays so where no column is (and_parts out  ).0
+-- ---- a row that is not default stays so where no column is left out
 
 zero_columns : (ds cs : Vals) (r : Row) → row_is_zero (types cs) (brought ds cs r) ≡ list_all (λ c. value_is_zero c.ty (read_val ds r c)) cs
 unfolding row_is_zero brought

@@ -37,7 +37,7 @@ unfoldable pub read_val : Vals → Row → ValCol → Value
 read_val [] r c = value_zero c.ty
 read_val (d ∷ ds) r c = if same_col c d then first d.ty r else read_val ds (rest r) c
 
--- a row over the columns ds brought to the columns cs: each column that cs lacks is (and_parts out  ).0, and each that ds lacks
+-- a row over the columns ds brought to the columns cs: each column that cs lacks is left out, and each that ds lacks
 -- is zero
 unfoldable pub brought : Vals → Vals → Row → Row
 brought ds cs r = map (read_val ds r) cs

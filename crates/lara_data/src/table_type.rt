@@ -2,6 +2,7 @@
 ghost use Rattle.std.specs.Prelude.{◌≡◌, ◌<◌, ◌+◌, length, IfOk, Some, None, Bool, true, false};
 ghost use Rattle.lara_data.specs.TableTypes.{has_key, has_val, are_vals_distinct, are_distinct, typed_columns};
 
+use crate::limits::MAX_COLS;
 use lara_base::{Copied, List, Name};
 use lara_key::KeyType;
 use lara_semiring::ValType;
@@ -22,7 +23,7 @@ pub struct ValCol {
     pub ty: ValType,
 }
 
-/// At most 8 key columns and 1 to 8 value columns, all names distinct.
+/// At most `MAX_COLS` key columns and 1 to `MAX_COLS` value columns, all names distinct.
 #[derive(Drop)]
 pub struct TableType {
     pub keys: List<KeyCol>,
@@ -118,7 +119,7 @@ impl TableType {
     pub fn new(keys: List<KeyCol>, vals: List<ValCol>) -> Option<TableType>
         ensures { result ≡ typed_columns keys vals }
     {
-        if keys.len() > 8 || vals.is_empty() || vals.len() > 8 {
+        if keys.len() > MAX_COLS || vals.is_empty() || vals.len() > MAX_COLS {
             return None;
         }
         if are_distinct(keys.as_slice(), vals.as_slice()) {
