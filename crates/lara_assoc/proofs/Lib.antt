@@ -9,3 +9,4 @@ pub mod RowFacts
 pub mod RunFacts
 pub mod TableFacts
 pub mod TreeSizes
+pub mod NewestFacts

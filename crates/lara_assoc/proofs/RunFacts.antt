@@ -14,6 +14,7 @@ use Rattle.lara_data.specs.ScriptLaws.{typed_item, fits_item, after_all-more, St
 use Rattle.lara_data.specs.Denotations as denoted
 use Rattle.lara_data.specs.Denotations.{Database, NamedTable, after, after_all, denotation}
 use Rattle.lara_assoc.specs.declared.scripts.Running.{Running}
+use Rattle.lara_assoc.specs.Newest.{HasNewest}
 use Rattle.lara_assoc.specs.Runs.{IsRun, CanRun}
 
 counts : (ps : Plugins) (db : Database) (r : denoted.Running) (s : Statement) → (after ps db r s).statement ≡ r.statement + 1
@@ -21,12 +22,12 @@ counts ps db r (Assign n t) = refl
 counts ps db r (Print n o) = refl
 counts ps db r (Store o n) = refl
 
-can : (ps : Plugins) (db : Database) (e : Running) (known : List Schema) (tables : List NamedTable) → Stands db known tables → e.tables ≡ tables → (s : Statement) → StatementTyped known s → StatementFits ps db s → CanRun ps db e s
-can ps db e known tables stands is (Assign n node) typed fits = record { known = known; stands = subst (λ (ts : List NamedTable). Stands db known ts) (sym is) stands; typed = typed; fits = fits }
+can : (ps : Plugins) (db : Database) (e : Running) (known : List Schema) (tables : List NamedTable) → Stands db known tables → HasNewest e.assigned.tables tables → (s : Statement) → StatementTyped known s → StatementFits ps db s → CanRun ps db e s
+can ps db e known tables stands is (Assign n node) typed fits = record { tables = tables; newest = is; meant = record { known = known; stands = stands; typed = typed; fits = fits } }
 can ps db e known tables stands is (Print n o) typed fits = tt
 can ps db e known tables stands is (Store o n) typed fits = tt
 
-pub run_begins : (ps : Plugins) (db : Database) (e : Running) (ss : List Statement) → e.statement ≡ 0 → e.tables ≡ [] → e.prints ≡ [] → e.stores ≡ [] → IsRun e (after_all ps db (take 0 ss))
+pub run_begins : (ps : Plugins) (db : Database) (e : Running) (ss : List Statement) → e.statement ≡ 0 → HasNewest e.assigned.tables [] → e.prints ≡ [] → e.stores ≡ [] → IsRun e (after_all ps db (take 0 ss))
 unfolding after_all
 run_begins ps db e ss s t p q = record { statement = s; tables = t; prints = p; stores = q }
 

@@ -18,12 +18,14 @@ use lara_semiring::{Row, ValType, is_default, row_plus};
 use std::alloc::{AllocError, Global};
 use std::collections::BTreeMap;
 use std::marker::Model;
+use std::rc::Rc;
 
-/// A table: a finite map from tuples to rows of its type, none of them default.
+/// A table: a finite map from tuples to rows of its type, none of them default. Copies share the map, which is never
+/// written again once it is a table's.
 #[derive(Drop)]
 pub struct Assoc {
     ty: TableType,
-    rows: BTreeMap<Tuple, Row>,
+    rows: Rc<BTreeMap<Tuple, Row>>,
 }
 
 impl Model for Assoc {
@@ -35,9 +37,9 @@ impl Model for Assoc {
 
     ghost Value = { Table };
 
-    ghost view = { λ a. record { ty = a.ty; entries = of_pairs a.rows.entries } };
+    ghost view = { λ a. record { ty = a.ty; entries = of_pairs a.rows.value.entries } };
 
-    ghost invariant = { λ a. IsTyped tuple_cmp (types a.ty.vals) (of_pairs a.rows.entries) };
+    ghost invariant = { λ a. IsTyped tuple_cmp (types a.ty.vals) (of_pairs a.rows.value.entries) };
 }
 
 // Sums one more entry into a map. A key whose sum is default goes.
@@ -99,7 +101,7 @@ impl Assoc {
         let rows = summed(alloc, &tys, entries)?;
         Ok(Assoc {
             ty: ty.copy(alloc)?,
-            rows,
+            rows: Rc::new(alloc, rows)?,
         })
     }
 
@@ -116,7 +118,7 @@ impl Assoc {
         ensures typed { all_have (types self.now.ty.vals) self.now.entries ≡ true }
     {
         let mut list = List::new(alloc);
-        for (key, row) in self.rows.iter() {
+        for (key, row) in self.rows.as_ref().iter() {
             list.push(Entry {
                 key: key.copy(alloc)?,
                 row: row.copy(alloc)?,
@@ -132,7 +134,7 @@ impl Assoc {
         ensures typed { IfOk result (λ es. all_have (types self.now.ty.vals) es ≡ true) }
     {
         let mut list = List::new(alloc);
-        for (key, row) in self.rows.iter() {
+        for (key, row) in self.rows.as_ref().iter() {
             list.push(Entry {
                 key: cut(alloc, &self.ty.keys, order, key)?,
                 row: row.copy(alloc)?,
@@ -155,7 +157,7 @@ impl Assoc {
     pub fn is_in_range(&self) -> bool
         ensures { result ≡ is_in_range self.now }
     {
-        for (key, row) in self.rows.iter() {
+        for (key, row) in self.rows.as_ref().iter() {
             if is_key_over(key) || is_row_over(&self.ty.vals, row) {
                 return false;
             }
@@ -166,7 +168,9 @@ impl Assoc {
 
 impl Copied for Assoc {
     fn copy(&self, alloc: Global) -> Result<Assoc, AllocError> {
-        let entries = self.entries(alloc)?;
-        Assoc::total(alloc, &self.ty, &entries)
+        Ok(Assoc {
+            ty: self.ty.copy(alloc)?,
+            rows: self.rows.clone()?,
+        })
     }
 }

@@ -2,6 +2,7 @@
 #![tactic(auto)]
 
 mod aggs;
+mod assigned;
 mod assoc;
 mod columns;
 mod groups;

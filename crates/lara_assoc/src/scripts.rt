@@ -4,7 +4,8 @@ ghost use Rattle.lara_data.specs.Plugins.{handed};
 ghost use Rattle.lara_data.specs.Fits.{ScriptFits, TablesTyped};
 ghost use Rattle.lara_data.specs.Denotations.{denotation};
 
-use crate::named::{Answers, NamedTable, Printed, Stored, table_named};
+use crate::assigned::Assigned;
+use crate::named::{Answers, NamedTable, Printed, Stored};
 use crate::trees::table_of;
 use lara_base::{Copied, List, Name};
 use lara_data::{Node, Order, Plugin, Script, Statement};
@@ -14,16 +15,16 @@ use std::alloc::{AllocError, Global};
 #[derive(Drop)]
 struct Running {
     statement: u32,
-    tables: List<NamedTable>,
+    assigned: Assigned,
     prints: List<Printed>,
     stores: List<Stored>,
 }
 
 impl Running {
-    ghost use Rattle.lara_data.specs.Denotations.{Running as Runs, after};
+    ghost use Rattle.lara_data.specs.Denotations.{Running as Runs, after, after_printing, after_storing};
     ghost use Rattle.lara_data.specs.declared.script.Statement.TheVariants.{Assign};
-    ghost use Rattle.lara_assoc.specs.Runs.{IsRun, CanRun, after_print, after_store};
-    ghost use Rattle.lara_assoc.specs.Meant.{IsMeant};
+    ghost use Rattle.lara_assoc.specs.Runs.{IsRun, CanRun};
+    ghost use Rattle.lara_assoc.specs.Meant.{IsMeantBy};
 
     fn assign(
         &mut self,
@@ -34,22 +35,21 @@ impl Running {
         node: &Node,
     ) -> Result<(), AllocError>
         requires few { self.old.statement < 2 ^ 32 - 1 }
-        requires scope { IsMeant (handed ⟦<dyn Plugin as Plugin>⟧ plugins.now.items) stored.now self.old.tables node.now }
+        requires scope { IsMeantBy (handed ⟦<dyn Plugin as Plugin>⟧ plugins.now.items) stored.now self.old.assigned.tables node.now }
         ensures { (r : Runs) → IsRun self.old r → OnOk result (IsRun self.new (after (handed ⟦<dyn Plugin as Plugin>⟧ plugins.now.items) stored.now r (Assign name.now node.now))) }
     {
-        let table = table_of(alloc, plugins, stored, &self.tables, node)?;
-        let name = name.copy(alloc)?;
-        self.tables.push(NamedTable { name, table })?;
+        let table = table_of(alloc, plugins, stored, &self.assigned, node)?;
+        self.assigned.put(name.copy(alloc)?, table)?;
         self.statement += 1;
         Ok(())
     }
 
     fn print(&mut self, alloc: Global, name: &Name, order: &Order) -> Result<(), AllocError>
         requires few { self.old.statement < 2 ^ 32 - 1 }
-        ensures { (r : Runs) → IsRun self.old r → OnOk result (IsRun self.new (after_print r name.now order.now)) }
+        ensures { (r : Runs) → IsRun self.old r → OnOk result (IsRun self.new (after_printing r name.now order.now)) }
     {
         self.statement += 1;
-        if let Some(table) = table_named(&self.tables, name) {
+        if let Some(table) = self.assigned.get(name) {
             self.prints.push(Printed {
                 statement: self.statement,
                 name: name.copy(alloc)?,
@@ -62,10 +62,10 @@ impl Running {
 
     fn store(&mut self, alloc: Global, old: &Name, new: &Name) -> Result<(), AllocError>
         requires few { self.old.statement < 2 ^ 32 - 1 }
-        ensures { (r : Runs) → IsRun self.old r → OnOk result (IsRun self.new (after_store r old.now new.now)) }
+        ensures { (r : Runs) → IsRun self.old r → OnOk result (IsRun self.new (after_storing r old.now new.now)) }
     {
         self.statement += 1;
-        if let Some(table) = table_named(&self.tables, old) {
+        if let Some(table) = self.assigned.get(old) {
             self.stores.push(Stored {
                 statement: self.statement,
                 name: new.copy(alloc)?,
@@ -109,7 +109,7 @@ pub fn eval(
 {
     let mut running = Running {
         statement: 0,
-        tables: List::new(alloc),
+        assigned: Assigned::new(alloc),
         prints: List::new(alloc),
         stores: List::new(alloc),
     };
@@ -118,7 +118,7 @@ pub fn eval(
     }
     let Running {
         statement: _,
-        tables: _,
+        assigned: _,
         prints,
         stores,
     } = running;

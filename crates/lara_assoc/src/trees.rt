@@ -1,11 +1,13 @@
 //! The table of a tree.
-ghost use Rattle.std.specs.Prelude.{◌≡◌, [], IfOk};
+ghost use Rattle.std.specs.Prelude.{◌≡◌, [], List, IfOk};
 ghost use Rattle.lara_data.specs.Plugins.{handed};
 ghost use Rattle.lara_data.specs.Tables.{table_of as table_of_entries};
-ghost use Rattle.lara_data.specs.Denotations.{meaning_of};
-ghost use Rattle.lara_assoc.specs.Meant.{IsMeant};
+ghost use Rattle.lara_data.specs.Denotations.{NamedTable as Named, meaning_of};
+ghost use Rattle.lara_assoc.specs.Meant.{IsMeantBy};
+ghost use Rattle.lara_assoc.specs.Newest.{HasNewest};
 
 use crate::aggs::agg;
+use crate::assigned::Assigned;
 use crate::assoc::Assoc;
 use crate::joins::join;
 use crate::named::{NamedTable, copy_named};
@@ -22,20 +24,21 @@ fn nothing(alloc: Global, ty: &TableType) -> Result<Assoc, AllocError>
     Assoc::total(alloc, ty, &entries)
 }
 
-/// The table of a tree over stored tables and those that a script assigned so far.
+/// The table of a tree over stored tables and those that a script assigned so far. The plugins stand in its clauses: the
+/// tables of applies, which no typed tree has yet, are to be made with them.
 pub fn table_of(
     alloc: Global,
     plugins: &Vec<Box<dyn Plugin>>,
     db: &List<NamedTable>,
-    tables: &List<NamedTable>,
+    tables: &Assigned,
     node: &Node,
 ) -> Result<Assoc, AllocError>
-    requires { IsMeant (handed ⟦<dyn Plugin as Plugin>⟧ plugins.now.items) db.now tables.now node.now }
-    ensures { IfOk result (λ t. t ≡ meaning_of (handed ⟦<dyn Plugin as Plugin>⟧ plugins.now.items) db.now tables.now node.now) }
+    requires { IsMeantBy (handed ⟦<dyn Plugin as Plugin>⟧ plugins.now.items) db.now tables.now.tables node.now }
+    ensures { (ts : List Named) → HasNewest tables.now.tables ts → IfOk result (λ t. t ≡ meaning_of (handed ⟦<dyn Plugin as Plugin>⟧ plugins.now.items) db.now ts node.now) }
 {
     match &node.op {
         Op::Load(name) => copy_named(alloc, db, name, &node.ty),
-        Op::Named(name) => copy_named(alloc, tables, name, &node.ty),
+        Op::Named(name) => tables.copy_of(alloc, name, &node.ty),
         Op::Literal(entries) => Assoc::total(alloc, &node.ty, entries),
         Op::Join(a, b) => {
             let left = table_of(alloc, plugins, db, tables, a.get())?;
