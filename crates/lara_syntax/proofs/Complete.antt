@@ -1,15 +1,15 @@
 -- What is in the grammar is read.
-use Rattle.std.proofs.Common.{◌≡◌, ℕ, ◌<◌, ◌≤◌, ◌+◌, List, [], ◌∷◌, ◌++◌, length, Option, Some, None, refl, sym, ap, subst, ◌∙◌, arith, append_assoc, Bool, true, false, cond, nat_lt}
+use Rattle.std.proofs.Common.{◌≡◌, ℕ, suc, ◌<◌, ◌≤◌, ◌+◌, List, [], ◌∷◌, ◌++◌, length, Option, Some, None, refl, sym, ap, subst, ◌∙◌, arith, append_assoc, Bool, true, false, cond, nat_lt}
 use Rattle.std.proofs.lemmas.List.{append-nil, length-append}
 use Rattle.std.proofs.lemmas.Bool.{eq-eqb, lt-ltb}
-use Rattle.lara_data.specs.declared.refusal.Kind.TheVariants.{Unexpected}
+use Rattle.lara_data.specs.declared.refusal.Kind.TheVariants.{Unexpected, TooMany}
 use Rattle.lara_key.specs.declared.key.KeyType.{KeyType}
 use Rattle.lara_semiring.specs.declared.value.ValType.{ValType}
 use Rattle.lara_syntax.specs.declared.item.Lexeme.{Lexeme}
 use Rattle.lara_syntax.specs.declared.item.Lexeme.TheVariants as lex
 use Rattle.lara_syntax.specs.declared.item.Keyword.TheVariants as key
 use Rattle.lara_syntax.specs.declared.item.Sign.{Sign}
-use Rattle.lara_syntax.specs.declared.item.Sign.TheVariants.{Is, Semi, Comma, Colon, OpenBracket, CloseBracket, OpenBrace, CloseBrace}
+use Rattle.lara_syntax.specs.declared.item.Sign.TheVariants.{Is, Semi, Comma, Colon, OpenBracket, CloseBracket, OpenBrace, CloseBrace, Open, Close}
 use Rattle.lara_syntax.specs.declared.ast.AstName.{AstName}
 use Rattle.lara_syntax.specs.declared.ast.AstBy.{AstBy}
 use Rattle.lara_syntax.specs.declared.ast.AstKeyCol.{AstKeyCol}
@@ -18,13 +18,17 @@ use Rattle.lara_syntax.specs.AstTypes.{AstColumns}
 use Rattle.lara_syntax.specs.declared.ast.AstLit.{AstLit}
 use Rattle.lara_syntax.specs.declared.ast.AstEntry.{AstEntry}
 use Rattle.lara_syntax.specs.declared.ast.AstNode.{AstNode}
+use Rattle.lara_syntax.specs.declared.ast.AstOp.{AstOp}
+use Rattle.lara_syntax.specs.declared.ast.AstOp.TheVariants as op
 use Rattle.lara_syntax.specs.declared.ast.AstStatement.{AstStatement}
+use Rattle.lara_syntax.specs.Limits.{Limits}
 use Rattle.lara_syntax.specs.Steps.{Items, Read, Reader, ◌>>=◌, give, refuse, peek, skip, items_from, head_word}
 use Rattle.lara_syntax.specs.Reading as r
-use Rattle.lara_syntax.specs.Reading.{sign_number, sign, sign_by, comma_by}
-use Rattle.lara_syntax.specs.Grammar.{Word, word, Mark, Named, Lit, number, KeyTyped, nat, ValTyped, count, Many, none, more, CommaThen, comma_then, Commas, commas, Maybe, nothing, just, KeyCol, key_col, ValCol, val_col, TypeOf, columns, Entry, entry, SemiEntry, semi_entry, SomeSemi, no_semi, semi, Entries, entries, Table, literal, SomeOrder, no_order, order, Statement, assign, print, Script}
+use Rattle.lara_syntax.specs.Reading.{sign_number, sign, sign_by, comma_by, node, Counted}
+use Rattle.lara_syntax.specs.Grammar.{Word, word, Mark, Named, Lit, number, KeyTyped, nat, ValTyped, count, Many, none, more, CommaThen, comma_then, Commas, commas, Maybe, nothing, just, KeyCol, key_col, ValCol, val_col, TypeOf, columns, Entry, entry, SemiEntry, semi_entry, SomeSemi, no_semi, semi, Entries, entries, Leaf, named, load, literal, Operand, leaf, inside, Table, join, union, agg, operand, SomeOrder, no_order, order, Statement, assign, print, Script}
+use Rattle.lara_syntax.proofs.Levels.{inside_rest}
 use Rattle.lara_syntax.proofs.Turns.{TakesOne, read_of, items-some, items-none}
-use Rattle.lara_syntax.proofs.RuleReaders.{comma_name-one, comma_key_col-one, comma_val_col-one, comma_lit-one, semi_entry-one, statements-some, statements-none}
+use Rattle.lara_syntax.proofs.RuleReaders.{comma_name-one, comma_key_col-one, comma_val_col-one, comma_lit-one, semi_entry-one, has_room, next_behind, statements-some, statements-none}
 
 -- ---- one word
 
@@ -233,11 +237,83 @@ some_entries_reads es ts rest (just fs a c h) after = entries_reads fs a c h aft
 
 -- ---- tables
 
-table_reads : (x : AstNode) (ts us : Items) → Table x ts us → r.table ts ≡ read_of x us
-unfolding r.table
-table_reads x ts us (literal at a b ty es t1 t2 t3 t4 t5 t6 h1 h2 h3 h4 h5) =
-    chosen r.table_by t1 (Some (lex.Key key.Table)) (read_of _ t6) (head_is _ at t1 t2 h1)
+leaf_reads : (x : AstNode) (ts us : Items) → Leaf x ts us → r.leaf ts ≡ read_of x us
+unfolding r.leaf
+leaf_reads x ts us (named n a b h) = chosen r.leaf_by a (Some (lex.Name n.name)) (read_of _ b) (head_is _ n.at a b h) (rw (name_reads n a b h) refl)
+leaf_reads x ts us (load at n a b c h k) = chosen r.leaf_by a (Some (lex.Key key.Load)) (read_of _ c) (head_is _ at a b h) (rw (skip_is _ at a b h, name_reads n b c k) refl)
+leaf_reads x ts us (literal at a b ty es t1 t2 t3 t4 t5 t6 h1 h2 h3 h4 h5) =
+    chosen r.leaf_by t1 (Some (lex.Key key.Table)) (read_of _ t6) (head_is _ at t1 t2 h1)
     (rw (skip_is _ at t1 t2 h1, table_type_reads ty t2 t3 h2, sign_reads OpenBrace a t3 t4 h3, some_entries_reads es t4 t5 h4 (head_is _ b t5 t6 h5), sign_reads CloseBrace b t5 t6 h5) refl)
+
+-- what a choice does where a leaf is next
+leaf_chosen : {A : Type 0} (by : Option Lexeme → Reader A) (x : AstNode) (ts us : Items) → Leaf x ts us → (y : Read A)
+    → ((n : List ℕ) → by (Some (lex.Name n)) ts ≡ y) → by (Some (lex.Key key.Load)) ts ≡ y → by (Some (lex.Key key.Table)) ts ≡ y → (peek >>= by) ts ≡ y
+leaf_chosen by x ts us (named n a b h) y f g k = chosen by a (Some (lex.Name n.name)) y (head_is _ n.at a b h) (f n.name)
+leaf_chosen by x ts us (load at n a b c h l) y f g k = chosen by a (Some (lex.Key key.Load)) y (head_is _ at a b h) g
+leaf_chosen by x ts us (literal at a b ty es t1 t2 t3 t4 t5 t6 h1 h2 h3 h4 h5) y f g k = chosen by t1 (Some (lex.Key key.Table)) y (head_is _ at t1 t2 h1) k
+
+-- what a choice does where an operand is next
+operand_chosen : {A : Type 0} (by : Option Lexeme → Reader A) (d n : ℕ) (x : AstNode) (ts us : Items) → Operand d n x ts us → (y : Read A)
+    → ((n : List ℕ) → by (Some (lex.Name n)) ts ≡ y) → by (Some (lex.Key key.Load)) ts ≡ y → by (Some (lex.Key key.Table)) ts ≡ y → by (Some (lex.Sign Open)) ts ≡ y → (peek >>= by) ts ≡ y
+operand_chosen by d n x ts us (leaf e y a b h) z f g k l = leaf_chosen by y a b h z f g k
+operand_chosen by d n x ts us (inside e m a b y t1 t2 t3 t4 h1 h2 h3) z f g k l = chosen by t1 (Some (lex.Sign Open)) z (head_is _ a t1 t2 h1) l
+
+by_word_reads : (at : ℕ) (ts us : Items) → Word (lex.Key key.By) at ts us → r.by_word ts ≡ read_of at us
+unfolding r.by_word
+by_word_reads at ts us h = chosen r.by_word_by ts (Some (lex.Key key.By)) (read_of at us) (head_is _ at ts us h) (skip_is _ at ts us h)
+
+room_for : (m n : ℕ) → m < n → nat_lt m n ≡ true
+room_for m n h = lt-ltb m n h
+
+operator_reads : (limit taken : ℕ) (w : Lexeme) (at : ℕ) (ts us : Items) → Word w at ts us → taken < limit → r.operator_word limit taken ts ≡ read_of at us
+unfolding r.operator_word
+operator_reads limit taken w at ts us h lt = ap (λ (b : Bool). cond b skip (refuse TooMany) ts) (room_for taken limit lt) ∙ skip_is w at ts us h
+
+operator_goes : {B : Type 0} (limit taken : ℕ) (w : Lexeme) (at : ℕ) (ts us : Items) → Word w at ts us → taken < limit → (f : ℕ → Reader B) (y : Read B) → f at us ≡ y → (r.operator_word limit taken >>= f) ts ≡ y
+operator_goes limit taken w at ts us h lt f y g = step (r.operator_word limit taken) f ts at us y (operator_reads limit taken w at ts us h lt) g
+
+two_goes : (what : AstNode → AstNode → AstOp) (o : ℕ → Reader Counted) (k i j at : ℕ) (a b : AstNode) (ts us vs : Items) → o (k + 1) ts ≡ read_of (a, i) us → o i us ≡ read_of (b, j) vs → r.two_by what o k at ts ≡ read_of (node at (what a b), j) vs
+two_goes what o k i j at a b ts us vs h g =
+    step (o (k + 1)) (λ x. o x.1 >>= λ y. give (node at (what x.0 y.0), y.1)) ts (a, i) us (read_of (node at (what a b), j) vs) h
+    (step (o i) (λ y. give (node at (what a y.0), y.1)) us (b, j) vs (read_of (node at (what a b), j) vs) g refl)
+
+agg_goes : (o : ℕ → Reader Counted) (k j at by : ℕ) (a : AstNode) (ns : List AstName) (ts us vs rest : Items) → o (k + 1) ts ≡ read_of (a, j) us → r.by_word us ≡ read_of by vs → r.some_names vs ≡ read_of ns rest → r.agg_by o k at ts ≡ read_of (node at (op.Agg a ns), j) rest
+agg_goes o k j at by a ns ts us vs rest h g l =
+    step (o (k + 1)) (λ x. r.by_word >>= λ b. r.some_names >>= λ ms. give (node at (op.Agg x.0 ms), x.1)) ts (a, j) us (read_of (node at (op.Agg a ns), j) rest) h
+    (step r.by_word (λ b. r.some_names >>= λ ms. give (node at (op.Agg a ms), j)) us by vs (read_of (node at (op.Agg a ns), j) rest) g
+    (step r.some_names (λ ms. give (node at (op.Agg a ms), j)) vs ns rest (read_of (node at (op.Agg a ns), j) rest) l refl))
+
+-- behind k operator words there are j with those of the table
+mutual
+  unfolding r.operand r.table r.inside
+
+  operand_reads : (limit d n : ℕ) (x : AstNode) (ts us : Items) → Operand d n x ts us → (k j : ℕ) → j ≡ k + n → j ≤ limit → r.operand limit d k ts ≡ read_of (x, j) us
+  operand_reads limit d n x ts us (leaf e y a b h) k j total le =
+      let same : k ≡ j = omega (arith, total) in
+      let read : (r.leaf >>= λ z. give (z, k)) a ≡ read_of (y, j) b = step r.leaf (λ z. give (z, k)) a y b (read_of (y, j) b) (leaf_reads y a b h) (ap (λ (q : ℕ). read_of (y, q) b) same) in
+      leaf_chosen (r.operand_by (r.inside limit e) k) y a b h (read_of (y, j) b) (λ m. read) read read
+  operand_reads limit d n x ts us (inside e m a b y t1 t2 t3 t4 h1 h2 h3) k j total le =
+      chosen (r.operand_by (r.inside limit (suc e)) k) t1 (Some (lex.Sign Open)) (read_of (y, j) t4) (head_is _ a t1 t2 h1)
+      (step skip (inside_rest limit e k) t1 a t2 (read_of (y, j) t4) (skip_is _ a t1 t2 h1)
+      (step (r.table limit e k) (λ z. sign Close >>= λ end. give z) t2 (y, j) t3 (read_of (y, j) t4) (table_reads limit e m y t2 t3 h2 k j total le (subst AfterNames (sym (head_is _ b t3 t4 h3)) tt))
+      (step (sign Close) (λ end. give (y, j)) t3 b t4 (read_of (y, j) t4) (sign_reads Close b t3 t4 h3) refl)))
+
+  table_reads : (limit d n : ℕ) (x : AstNode) (ts us : Items) → Table d n x ts us → (k j : ℕ) → j ≡ k + n → j ≤ limit → AfterNames (head_word us) → r.table limit d k ts ≡ read_of (x, j) us
+  table_reads limit d n x ts us (join e l m at a b t1 t2 t3 t4 h1 h2 h3) k j total le after =
+      chosen (r.table_by limit (r.operand limit e) k) t1 (Some (lex.Key key.Join)) (read_of _ t4) (head_is _ at t1 t2 h1)
+      (operator_goes limit k _ at t1 t2 h1 (omega (arith, total, le)) (r.two_by op.Join (r.operand limit e) k) (read_of _ t4)
+      (two_goes op.Join (r.operand limit e) k (k + 1 + l) j at a b t2 t3 t4 (operand_reads limit e l a t2 t3 h2 (k + 1) (k + 1 + l) refl (omega (arith, total, le))) (operand_reads limit e m b t3 t4 h3 (k + 1 + l) j (omega (arith, total)) le)))
+  table_reads limit d n x ts us (union e l m at a b t1 t2 t3 t4 h1 h2 h3) k j total le after =
+      chosen (r.table_by limit (r.operand limit e) k) t1 (Some (lex.Key key.Union)) (read_of _ t4) (head_is _ at t1 t2 h1)
+      (operator_goes limit k _ at t1 t2 h1 (omega (arith, total, le)) (r.two_by op.Union (r.operand limit e) k) (read_of _ t4)
+      (two_goes op.Union (r.operand limit e) k (k + 1 + l) j at a b t2 t3 t4 (operand_reads limit e l a t2 t3 h2 (k + 1) (k + 1 + l) refl (omega (arith, total, le))) (operand_reads limit e m b t3 t4 h3 (k + 1 + l) j (omega (arith, total)) le)))
+  table_reads limit d n x ts us (agg e m at by a ns t1 t2 t3 t4 t5 h1 h2 h3 h4) k j total le after =
+      chosen (r.table_by limit (r.operand limit e) k) t1 (Some (lex.Key key.Agg)) (read_of _ t5) (head_is _ at t1 t2 h1)
+      (operator_goes limit k _ at t1 t2 h1 (omega (arith, total, le)) (r.agg_by (r.operand limit e) k) (read_of _ t5)
+      (agg_goes (r.operand limit e) k j at by a ns t2 t3 t4 t5 (operand_reads limit e m a t2 t3 h2 (k + 1) j (omega (arith, total)) le) (by_word_reads by t3 t4 h3) (some_names_reads ns t4 t5 h4 after)))
+  table_reads limit d n x ts us (operand e m y a b h) k j total le after =
+      let read = operand_reads limit e m y a b h k j total le in
+      operand_chosen (r.table_by limit (r.operand limit e) k) e m y a b h (read_of (y, j) b) (λ q. read) read read read
 
 -- ---- statements
 
@@ -247,40 +323,37 @@ some_order_reads x ts us (no_order q) after = chosen r.some_order_by q (Some (le
 some_order_reads x ts us (order at ns a b c h k) after =
     chosen r.some_order_by a (Some (lex.Key key.By)) (read_of _ c) (head_is _ at a b h) (rw (skip_is _ at a b h, some_names_reads ns b c k (subst AfterNames (sym after) tt)) refl)
 
-pub statement_reads : (x : AstStatement) (ts us : Items) → Statement x ts us → r.statement ts ≡ read_of x us
+pub statement_reads : (limits : Limits) (x : AstStatement) (ts us : Items) → Statement limits x ts us → r.statement limits ts ≡ read_of x us
 unfolding r.statement
-statement_reads x ts us (assign a b n t t1 t2 t3 t4 t5 h1 h2 h3 h4) =
-    chosen r.statement_by t1 (Some (lex.Name n.name)) (read_of _ t5) (head_is _ n.at t1 t2 h1)
-    (rw (name_reads n t1 t2 h1, sign_reads Is a t2 t3 h2, table_reads t t3 t4 h3, sign_reads Semi b t4 t5 h4) refl)
-statement_reads x ts us (print at b n by t1 t2 t3 t4 t5 h1 h2 h3 h4) =
-    chosen r.statement_by t1 (Some (lex.Key key.Print)) (read_of _ t5) (head_is _ at t1 t2 h1)
+statement_reads limits x ts us (assign a b m n t t1 t2 t3 t4 t5 h1 h2 h3 le h4) =
+    chosen (r.statement_by limits) t1 (Some (lex.Name n.name)) (read_of _ t5) (head_is _ n.at t1 t2 h1)
+    (rw (name_reads n t1 t2 h1, sign_reads Is a t2 t3 h2, table_reads limits.operators limits.levels m t t3 t4 h3 0 m (omega arith) le (subst AfterNames (sym (head_is _ b t4 t5 h4)) tt), sign_reads Semi b t4 t5 h4) refl)
+statement_reads limits x ts us (print at b n by t1 t2 t3 t4 t5 h1 h2 h3 h4) =
+    chosen (r.statement_by limits) t1 (Some (lex.Key key.Print)) (read_of _ t5) (head_is _ at t1 t2 h1)
     (rw (skip_is _ at t1 t2 h1, name_reads n t2 t3 h2, some_order_reads by t3 t4 h3 (head_is _ b t4 t5 h4), sign_reads Semi b t4 t5 h4) refl)
 
 -- a statement begins with a word
-statement_head : (x : AstStatement) (ts us : Items) → Statement x ts us → (w : Lexeme) × (head_word ts ≡ Some w)
-statement_head x ts us (assign a b n t t1 t2 t3 t4 t5 h1 h2 h3 h4) = (lex.Name n.name, head_is _ n.at t1 t2 h1)
-statement_head x ts us (print at b n by t1 t2 t3 t4 t5 h1 h2 h3 h4) = (lex.Key key.Print, head_is _ at t1 t2 h1)
+statement_head : (limits : Limits) (x : AstStatement) (ts us : Items) → Statement limits x ts us → (w : Lexeme) × (head_word ts ≡ Some w)
+statement_head limits x ts us (assign a b m n t t1 t2 t3 t4 t5 h1 h2 h3 le h4) = (lex.Name n.name, head_is _ n.at t1 t2 h1)
+statement_head limits x ts us (print at b n by t1 t2 t3 t4 t5 h1 h2 h3 h4) = (lex.Key key.Print, head_is _ at t1 t2 h1)
 
-pub next_statement_reads : (x : AstStatement) (ts us : Items) → Statement x ts us → (room : Bool) → room ≡ true → r.next_statement room ts ≡ read_of (Some x) us
+pub next_statement_reads : (limits : Limits) (x : AstStatement) (ts us : Items) → Statement limits x ts us → (room : Bool) → room ≡ true → r.next_statement limits room ts ≡ read_of (Some x) us
 unfolding r.next_statement
-next_statement_reads x ts us h false e = absurd cc
-next_statement_reads x ts us h true e = let w = statement_head x ts us h in chosen (r.next_by true) ts (Some w.0) (read_of (Some x) us) w.1 (rw (statement_reads x ts us h) refl)
+next_statement_reads limits x ts us h false e = absurd cc
+next_statement_reads limits x ts us h true e = let w = statement_head limits x ts us h in chosen (r.next_by limits true) ts (Some w.0) (read_of (Some x) us) w.1 (rw (statement_reads limits x ts us h) refl)
 
-end_here : (room : Bool) → r.next_statement room [] ≡ read_of None []
+end_here : (limits : Limits) (room : Bool) → r.next_statement limits room [] ≡ read_of None []
 unfolding r.next_statement
-end_here room = refl
+end_here limits room = refl
 
-room_for : (m n : ℕ) → m < n → nat_lt m n ≡ true
-room_for m n h = lt-ltb m n h
-
-statements_go : (limit : ℕ) (xs : List AstStatement) (ts rest : Items) → Many Statement xs ts rest → rest ≡ [] → (acc : List AstStatement) → length acc + length xs ≤ limit → r.statements limit acc ts ≡ read_of (acc ++ xs) []
-statements_go limit xs ts rest (none q) e acc le =
-    statements-none limit acc q None [] (ap (r.next_statement (nat_lt (length acc) limit)) e ∙ end_here (nat_lt (length acc) limit)) refl ∙ ap (λ q. read_of q []) (sym (append-nil acc))
-statements_go limit xs ts rest (more x ys a b c h hs) e acc le =
-    statements-some limit acc a x b (next_statement_reads x a b h (nat_lt (length acc) limit) (room_for (length acc) limit (omega (arith, le))))
-    ∙ statements_go limit ys b c hs e (acc ++ x ∷ []) (omega (arith, le, length-append acc (x ∷ [])))
+statements_go : (limits : Limits) (xs : List AstStatement) (ts rest : Items) → Many (Statement limits) xs ts rest → rest ≡ [] → (acc : List AstStatement) → length acc + length xs ≤ limits.statements → r.statements limits acc ts ≡ read_of (acc ++ xs) []
+statements_go limits xs ts rest (none q) e acc le =
+    statements-none limits acc q None [] (ap (next_behind limits acc) e ∙ end_here limits (has_room limits acc)) refl ∙ ap (λ q. read_of q []) (sym (append-nil acc))
+statements_go limits xs ts rest (more x ys a b c h hs) e acc le =
+    statements-some limits acc a x b (next_statement_reads limits x a b h (has_room limits acc) (room_for (length acc) limits.statements (omega (arith, le))))
+    ∙ statements_go limits ys b c hs e (acc ++ x ∷ []) (omega (arith, le, length-append acc (x ∷ [])))
     ∙ ap (λ q. read_of q []) (append_assoc acc (x ∷ []) ys)
 
-pub script_reads : (limit : ℕ) (xs : List AstStatement) (ts : Items) → Script limit xs ts → r.script limit ts ≡ read_of xs []
+pub script_reads : (limits : Limits) (xs : List AstStatement) (ts : Items) → Script limits xs ts → r.script limits ts ≡ read_of xs []
 unfolding r.script
-script_reads limit xs ts h = statements_go limit xs ts [] h.0 refl [] (omega (arith, h.1))
+script_reads limits xs ts h = statements_go limits xs ts [] h.0 refl [] (omega (arith, h.1))

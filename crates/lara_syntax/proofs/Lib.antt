@@ -2,6 +2,7 @@ pub mod Blanks
 pub mod Complete
 pub mod Gather
 pub mod ItemLaws
+pub mod Levels
 pub mod Listed
 pub mod NameLaws
 pub mod NumberLaws
@@ -11,6 +12,7 @@ pub mod ParsedLaws
 pub mod PlainRules
 pub mod ReadLaws
 pub mod Readers
+pub mod Room
 pub mod RuleReaders
 pub mod Runs
 pub mod ScriptLaws
@@ -23,9 +25,12 @@ pub mod TextLaws
 pub mod Turns
 pub mod Viable
 pub mod ViableLoop
+pub mod ViableOperands
 pub mod ViableScript
 pub mod ViableTables
 pub mod ViableWords
+pub mod Wider
+pub mod WiderRules
 pub mod WordLaws
 pub mod WordReads
 pub mod WordTextLaws

@@ -1,10 +1,10 @@
 -- A script has one refusal.
-use Rattle.std.proofs.Common.{◌≡◌, ℕ, List, [], ◌∷◌, ◌++◌, length, Option, Some, None, Result, Ok, Err, ◌⊎◌, inl, inr, refl, sym, ap, subst, ◌∙◌, append_assoc}
+use Rattle.std.proofs.Common.{◌≡◌, ℕ, List, [], ◌∷◌, ◌++◌, Option, Some, None, Result, Ok, Err, ◌⊎◌, inl, inr, refl, sym, ap, subst, ◌∙◌, append_assoc}
 use Rattle.lara_syntax.specs.declared.item.Item.{Item}
 use Rattle.lara_data.specs.declared.refusal.Kind.{Kind}
-use Rattle.lara_data.specs.declared.refusal.Kind.TheVariants.{Unexpected}
 use Rattle.lara_data.specs.declared.refusal.Refusal.{Refusal}
 use Rattle.lara_syntax.specs.declared.ast.Ast.{Ast}
+use Rattle.lara_syntax.specs.Limits.{most}
 use Rattle.lara_syntax.specs.Steps.{Items}
 use Rattle.lara_syntax.specs.Grammar.{Script}
 use Rattle.lara_syntax.specs.Tokens.{items_of, stop_of}
@@ -15,7 +15,7 @@ use Rattle.lara_syntax.proofs.ParsedLaws.{parsed-found, parsed-refused}
 
 -- a script that goes on after words goes on after each front of them
 no_front : (front more whole : Items) → whole ≡ front ++ more → SomeBegins whole → NoneBegins front → ⊥
-no_front front more whole e s n = n (more ++ s.0) s.2 (subst (λ (q : Items). Script 256 s.2 q) (ap (λ (q : Items). q ++ s.0) e ∙ append_assoc front more s.0) s.3)
+no_front front more whole e s n = n (more ++ s.0) s.2 (subst (λ (q : Items). Script most s.2 q) (ap (λ (q : Items). q ++ s.0) e ∙ append_assoc front more s.0) s.3)
 
 -- two cuts of the same words: at one word, or one before the other
 abbrev Cuts : Items → Item → Items → Item → Type 0
@@ -37,8 +37,8 @@ cuts (s ∷ a) x b (t ∷ c) y d e =
 
 one_kind : (j k : Kind) (ts : Items) → KindOf j ts → KindOf k ts → j ≡ k
 one_kind j k ts (too_many us l) (too_many vs m) = refl
-one_kind j k ts (too_many us l) (unexpected vs n) = absurd (n l.0 l.2 l.3)
-one_kind j k ts (unexpected us n) (too_many vs l) = absurd (n l.0 l.2 l.3)
+one_kind j k ts (too_many us l) (unexpected vs n) = let h = l.1 in absurd (n l.0 h.0 h.2 h.3)
+one_kind j k ts (unexpected us n) (too_many vs l) = let h = l.1 in absurd (n l.0 h.0 h.2 h.3)
 one_kind j k ts (unexpected us n) (unexpected vs m) = refl
 
 module _ (bytes : List ℕ) where
@@ -73,7 +73,7 @@ module _ (bytes : List ℕ) where
 
   -- no script is refused
   stands_not : (ast : Ast) (r : Refusal) → Stands bytes ast → Refuses bytes r → ⊥
-  stands_not ast r h (at_word a x b j e sa na ka) = na b ast.statements (subst (λ (q : Items). Script 256 ast.statements q) (e ∙ sym (append_assoc a (x ∷ []) b)) h.0)
+  stands_not ast r h (at_word a x b j e sa na ka) = na b ast.statements (subst (λ (q : Items). Script most ast.statements q) (e ∙ sym (append_assoc a (x ∷ []) b)) h.0)
   stands_not ast r h (at_end t whole none) = none ast.statements h.0
   stands_not ast r h (at_token q t whole) = let q : (let o : Option Refusal = None in o) ≡ Some r = sym h.1 ∙ t in absurd cc
 

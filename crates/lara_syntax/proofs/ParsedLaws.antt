@@ -1,26 +1,27 @@
 -- The laws of what bytes stand for.
-use Rattle.std.proofs.Common.{◌≡◌, ◌-◌, ℕ, zero, suc, List, [], ◌∷◌, ◌++◌, length, Option, Some, None, Result, Ok, Err, inl, inr, refl, sym, ap, subst, ◌∙◌, arith}
+use Rattle.std.proofs.Common.{◌≡◌, ◌-◌, ℕ, zero, suc, List, [], ◌∷◌, ◌++◌, length, Option, Some, None, Result, Ok, Err, ◌<◌, ◌⊎◌, inl, inr, refl, sym, ap, subst, ◌∙◌, arith}
 use Rattle.std.specs.Prelude.{slice_get}
-use Rattle.std.proofs.lemmas.List.{length-append, append-nil}
+use Rattle.std.proofs.lemmas.List.{length-append}
 use Rattle.std.proofs.lemmas.Option.{slice_get_past}
 use Rattle.lara_syntax.specs.declared.item.Item.{Item}
 use Rattle.lara_data.specs.declared.refusal.Kind.{Kind}
-use Rattle.lara_data.specs.declared.refusal.Kind.TheVariants.{Unexpected}
+use Rattle.lara_data.specs.declared.refusal.Kind.TheVariants.{Unexpected, TooMany}
 use Rattle.lara_data.specs.declared.refusal.Refusal.{Refusal}
 use Rattle.lara_syntax.specs.declared.fault.Stop.{Stop}
 use Rattle.lara_syntax.specs.declared.ast.Ast.{Ast}
 use Rattle.lara_syntax.specs.declared.ast.AstStatement.{AstStatement}
+use Rattle.lara_syntax.specs.Limits.{most}
 use Rattle.lara_syntax.specs.Steps.{Items, Read}
 use Rattle.lara_syntax.specs.Reading as r
 use Rattle.lara_syntax.specs.Grammar.{Script}
 use Rattle.lara_syntax.specs.Tokens.{items_of, stop_of}
 use Rattle.lara_syntax.specs.Parsed.{read_value, at_or, place_of, refusal_of, at_end_of, answered, parsed}
-use Rattle.lara_syntax.specs.Refusals.{KindOf, too_many, unexpected, Refuses, at_word, at_end, at_token}
-use Rattle.lara_syntax.specs.Scripts.{Stands, SomeBegins, LongBegins}
+use Rattle.lara_syntax.specs.Refusals.{Refuses, at_word, at_end, at_token}
+use Rattle.lara_syntax.specs.Scripts.{Stands, SomeBegins}
 use Rattle.lara_syntax.proofs.Turns.{read_of, erred}
-use Rattle.lara_syntax.proofs.Readers.{ok_err, nil_of}
+use Rattle.lara_syntax.proofs.Readers.{ok_err}
 use Rattle.lara_syntax.proofs.Complete.{script_reads}
-use Rattle.lara_syntax.proofs.ScriptLaws.{script_sound, StopsAt, stops_at, none_begins, Kinds, script_kinds, none_long}
+use Rattle.lara_syntax.proofs.ScriptLaws.{script_sound, StopsAt, stops_at, stopped_whole, begins_whole, none_begins, script_kinds, kind_of}
 
 ok_not_err : {A B : Type 0} (x : A) (e : B) → (let q : Result A B = Ok x in q) ≡ Err e → ⊥
 ok_not_err x e h = absurd cc
@@ -34,10 +35,10 @@ err_is x y h = cc
 -- ---- what is answered stands in the grammar
 
 -- the words that were read make a script
-whole_script : (ts : Items) (xs : List AstStatement) (u : Items) → r.script 256 ts ≡ read_of xs u → Script 256 xs ts
-whole_script ts xs u e = (script_sound 256 ts xs u e).0
+whole_script : (ts : Items) (xs : List AstStatement) (u : Items) → r.script most ts ≡ read_of xs u → Script most xs ts
+whole_script ts xs u e = (script_sound most ts xs u e).0
 
-found_by : (bytes : List ℕ) (rd : Read (List AstStatement)) (token : Option Refusal) (ast : Ast) → r.script 256 (items_of bytes) ≡ rd → stop_of bytes ≡ token → answered (length bytes) (items_of bytes) token (read_value rd) ≡ Ok ast → Stands bytes ast
+found_by : (bytes : List ℕ) (rd : Read (List AstStatement)) (token : Option Refusal) (ast : Ast) → r.script most (items_of bytes) ≡ rd → stop_of bytes ≡ token → answered (length bytes) (items_of bytes) token (read_value rd) ≡ Ok ast → Stands bytes ast
 found_by bytes (Ok (xs, u)) (Some token) ast e t h = absurd (ok_not_err {A = Ast} {B = Refusal} ast token (sym h))
 found_by bytes (Ok (xs, u)) None ast e t h =
     let same : record { statements = xs } ≡ ast = ok_is {A = Ast} {B = Refusal} _ ast h in
@@ -46,16 +47,13 @@ found_by bytes (Err d) token ast e t h = absurd (ok_not_err {A = Ast} {B = Refus
 
 pub parsed-found : (bytes : List ℕ) (ast : Ast) → parsed bytes ≡ Ok ast → Stands bytes ast
 unfolding parsed
-parsed-found bytes ast h = found_by bytes (r.script 256 (items_of bytes)) (stop_of bytes) ast refl refl h
+parsed-found bytes ast h = found_by bytes (r.script most (items_of bytes)) (stop_of bytes) ast refl refl h
 
 pub parsed-only : (bytes : List ℕ) (ast : Ast) → Stands bytes ast → parsed bytes ≡ Ok ast
 unfolding parsed
-parsed-only bytes ast h = rw (script_reads 256 ast.statements (items_of bytes) h.0, h.1) refl
+parsed-only bytes ast h = rw (script_reads most ast.statements (items_of bytes) h.0, h.1) refl
 
 -- ---- what is refused
-
-begins_whole : (ts : Items) (xs : List AstStatement) → Script 256 xs ts → SomeBegins ts
-begins_whole ts xs h = ([], tt, xs, subst (λ (q : Items). Script 256 xs q) (sym (append-nil ts)) h)
 
 get_behind : (before : Items) (bad : Item) (after : Items) → slice_get (before ++ bad ∷ after) (length before) ≡ Some bad
 get_behind [] bad after = refl
@@ -69,71 +67,48 @@ word_place size ts before bad after left e len =
 end_place : (size : ℕ) (ts : Items) (left : ℕ) → left ≡ 0 → place_of size ts left ≡ size
 end_place size ts left e = ap (at_or size) (slice_get_past ts (length ts - left) (omega (arith, e)))
 
-kind_of : (before : Items) (bad : Item) (after : Items) (d : Stop) → r.script 256 (before ++ bad ∷ after) ≡ erred d → d.left ≡ suc (length after) → Kinds (before ++ bad ∷ after) d → KindOf d.kind (before ++ bad ∷ [])
-kind_of before bad after d e len (inl k) = subst (λ (j : Kind). KindOf j (before ++ bad ∷ [])) (sym k) (unexpected (before ++ bad ∷ []) (none_long 256 before bad after d e len k))
-kind_of before bad after d e len (inr m) =
-    let t = m.1 in
-    let same : before ++ bad ∷ [] ≡ t.before ++ t.bad ∷ [] = same_front before bad after t.before t.bad t.after t.parts (omega (arith, len, t.place)) in
-    subst (λ (j : Kind). KindOf j (before ++ bad ∷ [])) (sym m.0) (too_many (before ++ bad ∷ []) (subst LongBegins (sym same) t.long))
-  where
-    same_front : (a : Items) (x : Item) (b c : Items) (y : Item) (d : Items) → a ++ x ∷ b ≡ c ++ y ∷ d → length b ≡ length d → a ++ x ∷ [] ≡ c ++ y ∷ []
-    same_front [] x b [] y d e len = let q : x ≡ y = cc in ap (λ (z : Item). z ∷ []) q
-    same_front [] x b (t ∷ c) y d e len = absurd (omega (arith, len, ap length e, length-append c (y ∷ d)))
-    same_front (s ∷ a) x b [] y d e len = absurd (omega (arith, len, ap length e, length-append a (x ∷ b)))
-    same_front (s ∷ a) x b (t ∷ c) y d e len =
-        let hd : s ≡ t = cc in
-        let tl : a ++ x ∷ b ≡ c ++ y ∷ d = cc in
-        ap (λ (z : Item). z ∷ a ++ x ∷ []) hd ∙ ap (λ (q : Items). t ∷ q) (same_front a x b c y d tl len)
-
 -- at a word
-refused_word : (bytes : List ℕ) (d : Stop) (before : Items) (bad : Item) (after : Items) → r.script 256 (items_of bytes) ≡ erred d → items_of bytes ≡ before ++ bad ∷ after → d.left ≡ suc (length after) → SomeBegins before → Refuses bytes (refusal_of (length bytes) (items_of bytes) d)
+refused_word : (bytes : List ℕ) (d : Stop) (before : Items) (bad : Item) (after : Items) → r.script most (items_of bytes) ≡ erred d → items_of bytes ≡ before ++ bad ∷ after → d.left ≡ suc (length after) → SomeBegins before → Refuses bytes (refusal_of (length bytes) (items_of bytes) d)
 refused_word bytes d before bad after e parts len front =
-    let there : r.script 256 (before ++ bad ∷ after) ≡ erred d = ap (r.script 256) (sym parts) ∙ e in
-    let kinds : Kinds (before ++ bad ∷ after) d = script_kinds 256 (before ++ bad ∷ after) d there in
+    let there : r.script most (before ++ bad ∷ after) ≡ erred d = ap (r.script most) (sym parts) ∙ e in
     let place = word_place (length bytes) (items_of bytes) before bad after d.left parts len in
     subst (λ (at : ℕ). Refuses bytes (record { at = at; kind = d.kind })) (sym place)
-    (at_word before bad after d.kind parts front (none_begins 256 before bad after d there len) (kind_of before bad after d there len kinds))
+    (at_word before bad after d.kind parts front (none_begins most before bad after d there len) (kind_of most before bad after d there len))
 
 -- at the end of the words
-end_kind : (ts : Items) (d : Stop) → d.left ≡ 0 → Kinds ts d → d.kind ≡ Unexpected
-end_kind ts d e (inl k) = k
-end_kind ts d e (inr m) = absurd (omega (arith, e, m.1.place))
+end_kind : (d : Stop) → d.left ≡ 0 → (d.kind ≡ Unexpected) ⊎ ((d.kind ≡ TooMany) × (0 < d.left)) → d.kind ≡ Unexpected
+end_kind d e (inl k) = k
+end_kind d e (inr m) = absurd (omega (arith, e, m.1))
 
-stopped_whole : (ts : Items) (d : Stop) → d.left ≡ 0 → (s : StopsAt 256 ts d) → SomeBegins ts
-stopped_whole ts d e s =
-    let none : s.bad ≡ [] = nil_of s.bad (sym s.place ∙ e) in
-    let same : s.before ≡ ts = sym (s.parts ∙ ap (λ (q : Items). s.before ++ q) none ∙ append-nil s.before) in
-    (s.after, s.spelled, s.xs, subst (λ (q : Items). Script 256 s.xs (q ++ s.after)) same s.script)
-
-refused_end : (bytes : List ℕ) (d : Stop) (token : Option Refusal) (refusal : Refusal) → r.script 256 (items_of bytes) ≡ erred d → stop_of bytes ≡ token → d.left ≡ 0 → at_end_of 0 token (refusal_of (length bytes) (items_of bytes) d) ≡ refusal → Refuses bytes refusal
+refused_end : (bytes : List ℕ) (d : Stop) (token : Option Refusal) (refusal : Refusal) → r.script most (items_of bytes) ≡ erred d → stop_of bytes ≡ token → d.left ≡ 0 → at_end_of 0 token (refusal_of (length bytes) (items_of bytes) d) ≡ refusal → Refuses bytes refusal
 refused_end bytes d (Some t) refusal e h zero_left q =
-    at_token refusal (h ∙ ap (λ (x : Refusal). Some x) q) (stopped_whole (items_of bytes) d zero_left (stops_at 256 (items_of bytes) d e))
+    at_token refusal (h ∙ ap (λ (x : Refusal). Some x) q) (stopped_whole most (items_of bytes) d zero_left (stops_at most (items_of bytes) d e))
 refused_end bytes d None refusal e h zero_left q =
-    let kind : d.kind ≡ Unexpected = end_kind (items_of bytes) d zero_left (script_kinds 256 (items_of bytes) d e) in
+    let kind : d.kind ≡ Unexpected = end_kind d zero_left (script_kinds most (items_of bytes) d e) in
     let place = end_place (length bytes) (items_of bytes) d.left zero_left in
     let same : record { at = length bytes; kind = Unexpected } ≡ refusal = ap (λ (at : ℕ). record { at = at; kind = Unexpected }) (sym place) ∙ ap (λ (k : Kind). record { at = place_of (length bytes) (items_of bytes) d.left; kind = k }) (sym kind) ∙ q in
     subst (λ (x : Refusal). Refuses bytes x) same
-    (at_end h (stopped_whole (items_of bytes) d zero_left (stops_at 256 (items_of bytes) d e)) (λ xs s. ok_err xs [] d (sym (script_reads 256 xs (items_of bytes) s) ∙ e)))
+    (at_end h (stopped_whole most (items_of bytes) d zero_left (stops_at most (items_of bytes) d e)) (λ xs s. ok_err xs [] d (sym (script_reads most xs (items_of bytes) s) ∙ e)))
 
-refused_at : (bytes : List ℕ) (d : Stop) (bad : Items) → r.script 256 (items_of bytes) ≡ erred d → (s : StopsAt 256 (items_of bytes) d) → s.bad ≡ bad → (left : ℕ) → d.left ≡ suc left → Refuses bytes (refusal_of (length bytes) (items_of bytes) d)
+refused_at : (bytes : List ℕ) (d : Stop) (bad : Items) → r.script most (items_of bytes) ≡ erred d → (s : StopsAt most (items_of bytes) d) → s.bad ≡ bad → (left : ℕ) → d.left ≡ suc left → Refuses bytes (refusal_of (length bytes) (items_of bytes) d)
 refused_at bytes d [] e s b left n = absurd (omega (arith, n, s.place, ap length b))
 refused_at bytes d (t ∷ after) e s b left n = refused_word bytes d s.before t after e (s.parts ∙ ap (λ (q : Items). s.before ++ q) b) (s.place ∙ ap length b) (s.after, s.spelled, s.xs, s.script)
 
-refused_stop : (bytes : List ℕ) (d : Stop) (token : Option Refusal) (refusal : Refusal) (left : ℕ) → r.script 256 (items_of bytes) ≡ erred d → stop_of bytes ≡ token → d.left ≡ left → at_end_of left token (refusal_of (length bytes) (items_of bytes) d) ≡ refusal → Refuses bytes refusal
+refused_stop : (bytes : List ℕ) (d : Stop) (token : Option Refusal) (refusal : Refusal) (left : ℕ) → r.script most (items_of bytes) ≡ erred d → stop_of bytes ≡ token → d.left ≡ left → at_end_of left token (refusal_of (length bytes) (items_of bytes) d) ≡ refusal → Refuses bytes refusal
 refused_stop bytes d token refusal zero e h n q = refused_end bytes d token refusal e h n q
 refused_stop bytes d token refusal (suc left) e h n q =
-    let s = stops_at 256 (items_of bytes) d e in
+    let s = stops_at most (items_of bytes) d e in
     subst (λ (x : Refusal). Refuses bytes x) q (refused_at bytes d s.bad e s refl left n)
 
-refused_by : (bytes : List ℕ) (rd : Read (List AstStatement)) (token : Option Refusal) (refusal : Refusal) → r.script 256 (items_of bytes) ≡ rd → stop_of bytes ≡ token → answered (length bytes) (items_of bytes) token (read_value rd) ≡ Err refusal → Refuses bytes refusal
+refused_by : (bytes : List ℕ) (rd : Read (List AstStatement)) (token : Option Refusal) (refusal : Refusal) → r.script most (items_of bytes) ≡ rd → stop_of bytes ≡ token → answered (length bytes) (items_of bytes) token (read_value rd) ≡ Err refusal → Refuses bytes refusal
 refused_by bytes (Ok (xs, u)) (Some t) refusal e h q =
     let same : t ≡ refusal = err_is {A = Ast} {B = Refusal} t refusal q in
-    at_token refusal (h ∙ ap (λ (x : Refusal). Some x) same) (begins_whole (items_of bytes) xs (whole_script (items_of bytes) xs u e))
+    at_token refusal (h ∙ ap (λ (x : Refusal). Some x) same) (begins_whole most (items_of bytes) xs (whole_script (items_of bytes) xs u e))
 refused_by bytes (Ok (xs, u)) None refusal e h q = absurd (ok_not_err {A = Ast} {B = Refusal} _ refusal q)
 refused_by bytes (Err d) token refusal e h q = refused_stop bytes d token refusal d.left e h refl (err_is {A = Ast} {B = Refusal} _ refusal q)
 
 pub parsed-refused : (bytes : List ℕ) (refusal : Refusal) → parsed bytes ≡ Err refusal → Refuses bytes refusal
 unfolding parsed
-parsed-refused bytes refusal h = refused_by bytes (r.script 256 (items_of bytes)) (stop_of bytes) refusal refl refl h
+parsed-refused bytes refusal h = refused_by bytes (r.script most (items_of bytes)) (stop_of bytes) refusal refl refl h
 
 pub ruleset parsed_laws = (parsed-found, parsed-only, parsed-refused)

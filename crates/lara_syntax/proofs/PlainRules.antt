@@ -1,10 +1,10 @@
--- All refusals of a statement are of one kind.
+-- All refusals of a rule without limits are of one kind.
 use Rattle.std.proofs.Common.{◌≡◌, ◌<◌, ℕ, zero, suc, List, [], ◌∷◌, ◌++◌, length, Option, Some, None, Ok, Err, inl, inr, refl, sym, ap, ◌∙◌, arith, Bool, true, false, cond, eqb}
 use Rattle.lara_syntax.specs.declared.item.Lexeme.{Lexeme}
 use Rattle.lara_syntax.specs.declared.item.Lexeme.TheVariants as lex
 use Rattle.lara_syntax.specs.declared.item.Keyword.TheVariants as key
 use Rattle.lara_syntax.specs.declared.item.Sign.{Sign}
-use Rattle.lara_syntax.specs.declared.item.Sign.TheVariants.{Is, Semi, Comma, Colon, OpenBracket, CloseBracket, OpenBrace, CloseBrace}
+use Rattle.lara_syntax.specs.declared.item.Sign.TheVariants.{Semi, Comma, Colon, OpenBracket, CloseBracket, OpenBrace, CloseBrace}
 use Rattle.lara_data.specs.declared.refusal.Kind.TheVariants.{Unexpected}
 use Rattle.lara_syntax.specs.declared.fault.Stop.{Stop}
 use Rattle.lara_syntax.specs.declared.fault.Fault.TheVariants as faults
@@ -14,26 +14,24 @@ use Rattle.lara_syntax.specs.Reading as r
 use Rattle.lara_syntax.specs.Reading.{sign, sign_by, sign_number}
 use Rattle.lara_syntax.proofs.Turns.{TakesOne, erred, list-some, list-none, list-fail}
 use Rattle.lara_syntax.proofs.Readers.{bind_err, ok_err, stop_is}
-use Rattle.lara_syntax.proofs.RuleReaders.{comma_name-one, comma_key_col-one, comma_val_col-one, comma_lit-one, semi_entry-one}
-
--- ---- all refusals but those of a statement too many are of one kind
+use Rattle.lara_syntax.proofs.RuleReaders.{comma_name-one, comma_key_col-one, comma_val_col-one, comma_lit-one, semi_entry-one, print_rest}
 
 abbrev pub Plain : {A : Type 0} → Reader A → Type 0
 Plain {A = A} p = (ts : Items) (d : Stop) → p ts ≡ erred d → d.kind ≡ Unexpected
 
-plain_bind : {A B : Type 0} (p : Reader A) (f : A → Reader B) → Plain p → ((x : A) → Plain (f x)) → Plain (p >>= f)
+pub plain_bind : {A B : Type 0} (p : Reader A) (f : A → Reader B) → Plain p → ((x : A) → Plain (f x)) → Plain (p >>= f)
 plain_bind p f pp pf ts d e = elim (bind_err (p ts) f d e) [
   | inl h ↦ pp ts d h
   | inr h ↦ pf h.0 h.1 d h.3
 ]
 
-plain_give : {A : Type 0} (x : A) → Plain (give x)
+pub plain_give : {A : Type 0} (x : A) → Plain (give x)
 plain_give x ts d e = absurd (ok_err x ts d e)
 
-plain_refuse : {A : Type 0} → Plain (refuse {A = A} Unexpected)
+pub plain_refuse : {A : Type 0} → Plain (refuse {A = A} Unexpected)
 plain_refuse {A = A} ts d e = let s : record { left = length ts; kind = Unexpected } ≡ d = stop_is {A = A} _ d e in sym (ap (λ (x : Stop). x.kind) s)
 
-plain_skip : Plain skip
+pub plain_skip : Plain skip
 plain_skip [] d e = let s : record { left = 0; kind = Unexpected } ≡ d = stop_is {A = ℕ} _ d e in sym (ap (λ (x : Stop). x.kind) s)
 plain_skip (t ∷ ts) d e = absurd (ok_err t.at ts d e)
 
@@ -64,7 +62,7 @@ sign_by-plain : (m : Sign) (w : Option Lexeme) → Plain (sign_by m w)
 sign_by-plain m (Some (lex.Sign k)) = plain_cond (eqb (sign_number m) (sign_number k)) skip (refuse Unexpected) plain_skip plain_refuse
 sign_by-plain m w = plain_refuse
 
-sign-plain : (m : Sign) → Plain (sign m)
+pub sign-plain : (m : Sign) → Plain (sign m)
 unfolding sign
 sign-plain m = plain_choice (sign_by m) (sign_by-plain m)
 
@@ -72,7 +70,7 @@ name_by-plain : (w : Option Lexeme) → Plain (r.name_by w)
 name_by-plain (Some (lex.Name n)) = plain_bind skip _ plain_skip (λ at. plain_give _)
 name_by-plain w = plain_refuse
 
-name-plain : Plain r.name
+pub name-plain : Plain r.name
 unfolding r.name
 name-plain = plain_choice r.name_by name_by-plain
 
@@ -112,7 +110,7 @@ unfolding r.comma_name
 some_names_by-plain (Some (lex.Name n)) = commas-plain r.name name-plain comma_name-one
 some_names_by-plain w = plain_give []
 
-some_names-plain : Plain r.some_names
+pub some_names-plain : Plain r.some_names
 unfolding r.some_names
 some_names-plain = plain_choice r.some_names_by some_names_by-plain
 
@@ -182,27 +180,31 @@ some_entries-plain : Plain r.some_entries
 unfolding r.some_entries
 some_entries-plain = plain_bind r.entry_here r.entries_from entry_here-plain entries_from-plain
 
-table_by-plain : (w : Option Lexeme) → Plain (r.table_by w)
-table_by-plain (Some (lex.Key key.Table)) = plain_bind skip _ plain_skip (λ at. plain_bind r.table_type _ table_type-plain (λ ty. plain_bind (sign OpenBrace) _ (sign-plain OpenBrace) (λ a. plain_bind r.some_entries _ some_entries-plain (λ es. plain_bind (sign CloseBrace) _ (sign-plain CloseBrace) (λ b. plain_give _)))))
-table_by-plain w = plain_refuse
+leaf_by-plain : (w : Option Lexeme) → Plain (r.leaf_by w)
+leaf_by-plain (Some (lex.Name n)) = plain_bind r.name _ name-plain (λ x. plain_give _)
+leaf_by-plain (Some (lex.Key key.Load)) = plain_bind skip _ plain_skip (λ at. plain_bind r.name _ name-plain (λ x. plain_give _))
+leaf_by-plain (Some (lex.Key key.Table)) = plain_bind skip _ plain_skip (λ at. plain_bind r.table_type _ table_type-plain (λ ty. plain_bind (sign OpenBrace) _ (sign-plain OpenBrace) (λ a. plain_bind r.some_entries _ some_entries-plain (λ es. plain_bind (sign CloseBrace) _ (sign-plain CloseBrace) (λ b. plain_give _)))))
+leaf_by-plain w = plain_refuse
 
-table-plain : Plain r.table
-unfolding r.table
-table-plain = plain_choice r.table_by table_by-plain
+pub leaf-plain : Plain r.leaf
+unfolding r.leaf
+leaf-plain = plain_choice r.leaf_by leaf_by-plain
+
+by_word_by-plain : (w : Option Lexeme) → Plain (r.by_word_by w)
+by_word_by-plain (Some (lex.Key key.By)) = plain_skip
+by_word_by-plain w = plain_refuse
+
+pub by_word-plain : Plain r.by_word
+unfolding r.by_word
+by_word-plain = plain_choice r.by_word_by by_word_by-plain
 
 some_order_by-plain : (w : Option Lexeme) → Plain (r.some_order_by w)
 some_order_by-plain (Some (lex.Key key.By)) = plain_bind skip _ plain_skip (λ at. plain_bind r.some_names _ some_names-plain (λ ns. plain_give _))
 some_order_by-plain w = plain_give None
 
-some_order-plain : Plain r.some_order
+pub some_order-plain : Plain r.some_order
 unfolding r.some_order
 some_order-plain = plain_choice r.some_order_by some_order_by-plain
 
-statement_by-plain : (w : Option Lexeme) → Plain (r.statement_by w)
-statement_by-plain (Some (lex.Name n)) = plain_bind r.name _ name-plain (λ x. plain_bind (sign Is) _ (sign-plain Is) (λ a. plain_bind r.table _ table-plain (λ t. plain_bind (sign Semi) _ (sign-plain Semi) (λ b. plain_give _))))
-statement_by-plain (Some (lex.Key key.Print)) = plain_bind skip _ plain_skip (λ at. plain_bind r.name _ name-plain (λ x. plain_bind r.some_order _ some_order-plain (λ by. plain_bind (sign Semi) _ (sign-plain Semi) (λ b. plain_give _))))
-statement_by-plain w = plain_refuse
-
-pub statement-plain : Plain r.statement
-unfolding r.statement
-statement-plain = plain_choice r.statement_by statement_by-plain
+pub print_rest-plain : (at : ℕ) → Plain (print_rest at)
+print_rest-plain at = plain_bind r.name _ name-plain (λ x. plain_bind r.some_order _ some_order-plain (λ by. plain_bind (sign Semi) _ (sign-plain Semi) (λ b. plain_give _)))

@@ -1,4 +1,4 @@
--- What stands before a refused word can go on: names, columns, entries and tables.
+-- What stands before a refused word can go on: names, columns, entries and leaves.
 use Rattle.std.proofs.Common.{◌≡◌, ◌<◌, ℕ, List, [], ◌∷◌, length, Option, Some, None, refl, sym, ap, subst, arith}
 use Rattle.lara_syntax.specs.declared.item.Lexeme.{Lexeme}
 use Rattle.lara_syntax.specs.declared.item.Lexeme.TheVariants as lex
@@ -21,7 +21,7 @@ use Rattle.lara_syntax.proofs.RuleReaders.{sign-reads, name-reads, key_type-read
 use Rattle.lara_syntax.proofs.Complete.{NoComma, AfterNames, no_names_by, names_comma}
 use Rattle.lara_syntax.proofs.Viable.{IsViable, IsCase, Starts, case_viable, case_refuse, viable_bind, viable_give, viable_choice}
 use Rattle.lara_syntax.proofs.ViableLoop.{Keeps, IsItem, loop_starts, viable_list, keeps_viable, keeps_none, keeps_choice, viable_item}
-use Rattle.lara_syntax.proofs.ViableWords.{key_spelled, any, next_is, token, viable_behind, Takes, quiet_takes, refuse_takes, sign_takes, sign_viable, sign_starts, name_takes, name_viable, key_type_viable, val_type_viable, lit_takes, lit_viable, first_takes, second_takes, commas_viable, quiet_list, no_list, empty_list}
+use Rattle.lara_syntax.proofs.ViableWords.{name_spelled, a_name, any, next_is, token, viable_behind, Takes, quiet_takes, refuse_takes, sign_takes, sign_viable, sign_starts, name_takes, name_viable, key_type_viable, val_type_viable, lit_takes, lit_viable, first_takes, second_takes, commas_viable, quiet_list, no_list, empty_list}
 
 -- ---- names
 
@@ -229,33 +229,52 @@ pub some_entries_viable : IsViable (next_is CloseBrace) r.some_entries
 unfolding r.some_entries
 some_entries_viable = viable_bind (next_is CloseBrace) AfterEntry r.entry_here r.entries_from entry_here-reads entries_from-reads (entry_here_viable AfterEntry (λ w a. a)) entries_from_viable entries_from_starts
 
--- ---- tables
+-- ---- leaves
 
--- a table behind its first word
-abbrev pub table_rest : ℕ → Reader AstNode
-table_rest at = r.table_type >>= λ ty. sign OpenBrace >>= λ from. r.some_entries >>= λ es. sign CloseBrace >>= λ end. give (node at (op.Literal ty es))
+abbrev pub load_rest : ℕ → Reader AstNode
+load_rest at = r.name >>= λ x. give (node at (op.Load x))
 
-pub table_rest-reads : (at : ℕ) → IsReader (table_rest at)
-table_rest-reads at = reads_bind _ _ table_type-reads (λ ty. reads_bind _ _ (sign-reads OpenBrace) (λ from. reads_bind _ _ some_entries-reads (λ es. reads_bind _ _ (sign-reads CloseBrace) (λ end. reads_give _))))
+pub load_rest-reads : (at : ℕ) → IsReader (load_rest at)
+load_rest-reads at = reads_bind r.name (λ x. give (node at (op.Load x))) name-reads (λ x. reads_give _)
 
-pub table_rest_viable : (F : Option Lexeme → Type 0) (at : ℕ) → IsViable F (table_rest at)
-table_rest_viable F at =
+pub load_rest_viable : (F : Option Lexeme → Type 0) (at : ℕ) → IsViable F (load_rest at)
+load_rest_viable F at = viable_bind F any r.name (λ x. give (node at (op.Load x))) name-reads (λ x. reads_give _) (name_viable any) (λ x. viable_give F _) (λ x ts y v e a. tt)
+
+-- a literal behind its first word
+abbrev pub literal_rest : ℕ → Reader AstNode
+literal_rest at = r.table_type >>= λ ty. sign OpenBrace >>= λ from. r.some_entries >>= λ es. sign CloseBrace >>= λ end. give (node at (op.Literal ty es))
+
+pub literal_rest-reads : (at : ℕ) → IsReader (literal_rest at)
+literal_rest-reads at = reads_bind _ _ table_type-reads (λ ty. reads_bind _ _ (sign-reads OpenBrace) (λ from. reads_bind _ _ some_entries-reads (λ es. reads_bind _ _ (sign-reads CloseBrace) (λ end. reads_give _))))
+
+pub literal_rest_viable : (F : Option Lexeme → Type 0) (at : ℕ) → IsViable F (literal_rest at)
+literal_rest_viable F at =
     viable_bind F any r.table_type _ table_type-reads (λ ty. reads_bind _ _ (sign-reads OpenBrace) (λ from. reads_bind _ _ some_entries-reads (λ es. reads_bind _ _ (sign-reads CloseBrace) (λ end. reads_give _)))) (table_type_viable any)
     (λ ty. viable_bind F any (sign OpenBrace) _ (sign-reads OpenBrace) (λ from. reads_bind _ _ some_entries-reads (λ es. reads_bind _ _ (sign-reads CloseBrace) (λ end. reads_give _))) (sign_viable any OpenBrace)
     (λ from. viable_bind F (next_is CloseBrace) r.some_entries _ some_entries-reads (λ es. reads_bind _ _ (sign-reads CloseBrace) (λ end. reads_give _)) some_entries_viable
     (λ es. viable_bind F any (sign CloseBrace) _ (sign-reads CloseBrace) (λ end. reads_give _) (sign_viable any CloseBrace) (λ end. viable_give F _) (λ end ts y v e a. tt))
     (λ es. sign_starts F CloseBrace _)) (λ from ts y v e a. tt)) (λ ty ts y v e a. tt)
 
-pub table_cases : (F : Option Lexeme → Type 0) (w : Option Lexeme) → IsCase F (r.table_by w)
-table_cases F (Some (lex.Key key.Table)) = case_viable F _ (viable_behind F table_rest table_rest-reads (table_rest_viable F))
-table_cases F w = case_refuse F Unexpected
+pub leaf_cases : (F : Option Lexeme → Type 0) (w : Option Lexeme) → IsCase F (r.leaf_by w)
+leaf_cases F (Some (lex.Name n)) = case_viable F _ (viable_bind F any r.name (λ x. give (node x.at (op.Named x))) name-reads (λ x. reads_give _) (name_viable any) (λ x. viable_give F _) (λ x ts y v e a. tt))
+leaf_cases F (Some (lex.Key key.Load)) = case_viable F _ (viable_behind F load_rest load_rest-reads (load_rest_viable F))
+leaf_cases F (Some (lex.Key key.Table)) = case_viable F _ (viable_behind F literal_rest literal_rest-reads (literal_rest_viable F))
+leaf_cases F w = case_refuse F Unexpected
 
-pub table_by_takes : (w : Option Lexeme) → Takes (r.table_by w)
-table_by_takes (Some (lex.Key key.Table)) ts x u e = skip_shortens table_rest table_rest-reads ts x u e
-table_by_takes w ts x u e = refuse_takes ts x u e
+pub leaf_by_takes : (w : Option Lexeme) → Takes (r.leaf_by w)
+leaf_by_takes (Some (lex.Name n)) ts x u e = first_takes r.name (λ y. give (node y.at (op.Named y))) name_takes (λ y. reads_give _) ts x u e
+leaf_by_takes (Some (lex.Key key.Load)) ts x u e = skip_shortens load_rest load_rest-reads ts x u e
+leaf_by_takes (Some (lex.Key key.Table)) ts x u e = skip_shortens literal_rest literal_rest-reads ts x u e
+leaf_by_takes w ts x u e = refuse_takes ts x u e
 
-pub table_viable : (F : Option Lexeme → Type 0) → IsViable F r.table
-unfolding r.table
-table_viable F =
-    let rest = table_rest_viable F 0 in
-    viable_choice F r.table_by (table_cases F) (quiet_takes F r.table (λ ts x u e. table_by_takes (head_word ts) ts x u e)) (token (lex.Key key.Table) ∷ rest.word) (key_spelled key.Table, rest.spelled) rest.value rest.says
+pub leaf_takes : Takes r.leaf
+unfolding r.leaf
+leaf_takes ts x u e = leaf_by_takes (head_word ts) ts x u e
+
+-- the shortest of all tables
+abbrev pub a_node : AstNode
+a_node = node 0 (op.Named (record { name = a_name; at = 0 }))
+
+pub leaf_viable : (F : Option Lexeme → Type 0) → IsViable F r.leaf
+unfolding r.leaf r.name
+leaf_viable F = viable_choice F r.leaf_by (leaf_cases F) (quiet_takes F r.leaf leaf_takes) (token (lex.Name a_name) ∷ []) (name_spelled, tt) a_node (λ v after. refl)

@@ -1,5 +1,5 @@
 -- The grammar: which words stand for which tree. `X x ts rest` says that ts is x, and behind it rest.
-use Rattle.std.specs.Prelude.{◌≤◌, ℕ, List, [], ◌∷◌, length, Option, Some, None}
+use Rattle.std.specs.Prelude.{◌≤◌, ◌+◌, ℕ, suc, List, [], ◌∷◌, length, Option, Some, None}
 use Rattle.lara_key.specs.declared.key.KeyType.{KeyType}
 use Rattle.lara_key.specs.declared.key.KeyType.TheVariants as key_type_of
 use Rattle.lara_semiring.specs.declared.value.ValType.{ValType}
@@ -9,7 +9,7 @@ use Rattle.lara_syntax.specs.declared.item.Lexeme.TheVariants as lex
 use Rattle.lara_syntax.specs.declared.item.Keyword.{Keyword}
 use Rattle.lara_syntax.specs.declared.item.Keyword.TheVariants as key
 use Rattle.lara_syntax.specs.declared.item.Sign.{Sign}
-use Rattle.lara_syntax.specs.declared.item.Sign.TheVariants.{Is, Semi, Comma, Colon, OpenBracket, CloseBracket, OpenBrace, CloseBrace}
+use Rattle.lara_syntax.specs.declared.item.Sign.TheVariants.{Is, Semi, Comma, Colon, OpenBracket, CloseBracket, OpenBrace, CloseBrace, Open, Close}
 use Rattle.lara_syntax.specs.declared.ast.AstName.{AstName}
 use Rattle.lara_syntax.specs.declared.ast.AstBy.{AstBy}
 use Rattle.lara_syntax.specs.declared.ast.AstKeyCol.{AstKeyCol}
@@ -22,6 +22,7 @@ use Rattle.lara_syntax.specs.declared.ast.AstNode.{AstNode}
 use Rattle.lara_syntax.specs.declared.ast.AstOp.TheVariants as op
 use Rattle.lara_syntax.specs.declared.ast.AstStatement.{AstStatement}
 use Rattle.lara_syntax.specs.declared.ast.AstStatement.TheVariants as st
+use Rattle.lara_syntax.specs.Limits.{Limits}
 use Rattle.lara_syntax.specs.Steps.{Items}
 use Rattle.lara_syntax.specs.Reading.{node, first_at}
 
@@ -116,11 +117,35 @@ pub data Entries : List AstEntry → Items → Items → Type 0 where
 
 -- ---- tables
 
--- table = "table" type "{" [ entries ] "}"
-pub data Table : AstNode → Items → Items → Type 0 where
+-- a table that stands on no other: leaf = NAME | "load" NAME | "table" type "{" [ entries ] "}"
+pub data Leaf : AstNode → Items → Items → Type 0 where
+  named : (x : AstName) (ts rest : Items) → Named x ts rest → Leaf (node x.at (op.Named x)) ts rest
+  load : (at : ℕ) (x : AstName) (ts us rest : Items) → Key key.Load at ts us → Named x us rest → Leaf (node at (op.Load x)) ts rest
   literal : (at a b : ℕ) (ty : AstColumns) (es : List AstEntry) (t1 t2 t3 t4 t5 rest : Items)
       → Key key.Table at t1 t2 → TypeOf ty t2 t3 → Mark OpenBrace a t3 t4 → Maybe Entries es t4 t5 → Mark CloseBrace b t5 rest
-      → Table (node at (op.Literal ty es)) t1 rest
+      → Leaf (node at (op.Literal ty es)) t1 rest
+
+-- The numbers: how many levels of ( may be opened, and how many operator words there are.
+mutual
+  -- operand = leaf | "(" table ")"
+  pub data Operand : ℕ → ℕ → AstNode → Items → Items → Type 0 where
+    leaf : (d : ℕ) (x : AstNode) (ts rest : Items) → Leaf x ts rest → Operand d 0 x ts rest
+    inside : (d n a b : ℕ) (x : AstNode) (t1 t2 t3 rest : Items)
+        → Mark Open a t1 t2 → Table d n x t2 t3 → Mark Close b t3 rest
+        → Operand (suc d) n x t1 rest
+
+  -- table = "join" operand operand | "union" operand operand | "agg" operand "by" [ names ] | operand
+  pub data Table : ℕ → ℕ → AstNode → Items → Items → Type 0 where
+    join : (d m n at : ℕ) (x y : AstNode) (t1 t2 t3 rest : Items)
+        → Key key.Join at t1 t2 → Operand d m x t2 t3 → Operand d n y t3 rest
+        → Table d (suc (m + n)) (node at (op.Join x y)) t1 rest
+    union : (d m n at : ℕ) (x y : AstNode) (t1 t2 t3 rest : Items)
+        → Key key.Union at t1 t2 → Operand d m x t2 t3 → Operand d n y t3 rest
+        → Table d (suc (m + n)) (node at (op.Union x y)) t1 rest
+    agg : (d n at by : ℕ) (x : AstNode) (ns : List AstName) (t1 t2 t3 t4 rest : Items)
+        → Key key.Agg at t1 t2 → Operand d n x t2 t3 → Key key.By by t3 t4 → Maybe (Commas Named) ns t4 rest
+        → Table d (suc n) (node at (op.Agg x ns)) t1 rest
+    operand : (d n : ℕ) (x : AstNode) (ts rest : Items) → Operand d n x ts rest → Table d n x ts rest
 
 -- ---- statements
 
@@ -130,14 +155,14 @@ pub data SomeOrder : Option AstBy → Items → Items → Type 0 where
   order : (at : ℕ) (ns : List AstName) (ts us rest : Items) → Key key.By at ts us → Maybe (Commas Named) ns us rest → SomeOrder (Some (record { at = at; names = ns })) ts rest
 
 -- statement = NAME "=" table ";" | "print" NAME [ "by" [ names ] ] ";"
-pub data Statement : AstStatement → Items → Items → Type 0 where
-  assign : (a b : ℕ) (x : AstName) (t : AstNode) (t1 t2 t3 t4 rest : Items)
-      → Named x t1 t2 → Mark Is a t2 t3 → Table t t3 t4 → Mark Semi b t4 rest
-      → Statement (st.Assign x.at x t) t1 rest
+pub data Statement (limits : Limits) : AstStatement → Items → Items → Type 0 where
+  assign : (a b n : ℕ) (x : AstName) (t : AstNode) (t1 t2 t3 t4 rest : Items)
+      → Named x t1 t2 → Mark Is a t2 t3 → Table limits.levels n t t3 t4 → n ≤ limits.operators → Mark Semi b t4 rest
+      → Statement limits (st.Assign x.at x t) t1 rest
   print : (at b : ℕ) (x : AstName) (by : Option AstBy) (t1 t2 t3 t4 rest : Items)
       → Key key.Print at t1 t2 → Named x t2 t3 → SomeOrder by t3 t4 → Mark Semi b t4 rest
-      → Statement (st.Print at x by) t1 rest
+      → Statement limits (st.Print at x by) t1 rest
 
--- script = { statement }, at most so many
-abbrev pub Script : ℕ → List AstStatement → Items → Type 0
-Script limit xs ts = Many Statement xs ts [] × (length xs ≤ limit)
+-- script = { statement }, within limits
+abbrev pub Script : Limits → List AstStatement → Items → Type 0
+Script limits xs ts = Many (Statement limits) xs ts [] × (length xs ≤ limits.statements)

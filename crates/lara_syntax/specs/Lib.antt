@@ -1,6 +1,7 @@
 pub mod AstTypes
 pub mod ByteClasses
 pub mod Grammar
+pub mod Limits
 pub mod Parsed
 pub mod Reading
 pub mod Readings

@@ -7,6 +7,7 @@ use Rattle.lara_syntax.specs.declared.fault.Stop.{Stop}
 use Rattle.lara_data.specs.declared.refusal.Refusal.{Refusal}
 use Rattle.lara_data.specs.declared.refusal.ReadFault.{ReadFault}
 use Rattle.lara_data.specs.declared.refusal.ReadFault.TheVariants.{Refused, Memory}
+use Rattle.lara_syntax.specs.Limits.{most}
 use Rattle.lara_syntax.specs.Steps.{Items, Read}
 use Rattle.lara_syntax.specs.Reading.{script}
 use Rattle.lara_syntax.specs.Tokens.{items_of, stop_of}
@@ -45,7 +46,7 @@ answered size ts token (Err stop) = Err (at_end_of stop.left token (refusal_of s
 
 -- the tree of a script, or its first refusal
 unfoldable pub parsed : List ℕ → Result Ast Refusal
-parsed bytes = answered (length bytes) (items_of bytes) (stop_of bytes) (read_value (script 256 (items_of bytes)))
+parsed bytes = answered (length bytes) (items_of bytes) (stop_of bytes) (read_value (script most (items_of bytes)))
 
 abbrev pub FaultGives : ReadFault → Result Ast Refusal → Type 0
 FaultGives (Refused refusal) read = read ≡ Err refusal

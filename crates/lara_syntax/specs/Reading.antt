@@ -1,5 +1,5 @@
 -- Reading from left to right: each rule of the grammar by the word that is next.
-use Rattle.std.specs.Prelude.{ℕ, Bool, true, false, nat_lt, List, [], ◌∷◌, length, Option, Some, None, ◌==◌, if◌then◌else◌}
+use Rattle.std.specs.Prelude.{ℕ, zero, suc, ◌+◌, Bool, true, false, nat_lt, List, [], ◌∷◌, length, Option, Some, None, ◌==◌, if◌then◌else◌}
 use Rattle.lara_key.specs.declared.key.KeyType.{KeyType}
 use Rattle.lara_key.specs.declared.key.KeyType.TheVariants as key_type_of
 use Rattle.lara_semiring.specs.declared.value.ValType.{ValType}
@@ -24,6 +24,7 @@ use Rattle.lara_syntax.specs.declared.ast.AstOp.{AstOp}
 use Rattle.lara_syntax.specs.declared.ast.AstOp.TheVariants as op
 use Rattle.lara_syntax.specs.declared.ast.AstStatement.{AstStatement}
 use Rattle.lara_syntax.specs.declared.ast.AstStatement.TheVariants as st
+use Rattle.lara_syntax.specs.Limits.{Limits}
 use Rattle.lara_syntax.specs.Steps.{Reader, ◌>>=◌, give, refuse, peek, skip, items_from, list_from}
 
 -- ---- one word
@@ -239,23 +240,109 @@ entries_from (Some x) = items_from semi_entry (x ∷ [])
 unfoldable pub some_entries : Reader (List AstEntry)
 some_entries = entry_here >>= entries_from
 
--- ---- table = "table" type "{" [ entries ] "}"
+-- ---- a table that stands on no other: leaf = NAME | "load" NAME | "table" type "{" [ entries ] "}"
 
 abbrev pub node : ℕ → AstOp → AstNode
 node at what = record { at = at; op = what }
 
-abbrev pub table_by : Option Lexeme → Reader AstNode
-table_by (Some (lex.Key key.Table)) = do
+abbrev pub leaf_by : Option Lexeme → Reader AstNode
+leaf_by (Some (lex.Name n)) = do
+  x ← name
+  give (node x.at (op.Named x))
+leaf_by (Some (lex.Key key.Load)) = do
+  at ← skip
+  x ← name
+  give (node at (op.Load x))
+leaf_by (Some (lex.Key key.Table)) = do
   at ← skip
   ty ← table_type
   open_at ← sign OpenBrace
   es ← some_entries
   end ← sign CloseBrace
   give (node at (op.Literal ty es))
-table_by w = refuse Unexpected
+leaf_by w = refuse Unexpected
 
-unfoldable pub table : Reader AstNode
-table = peek >>= table_by
+unfoldable pub leaf : Reader AstNode
+leaf = peek >>= leaf_by
+
+-- ---- operand = leaf | "(" table ")"
+
+-- a table, and how many operator words the statement has up to its end
+abbrev pub Counted : Type 0
+Counted = AstNode × ℕ
+
+abbrev pub operand_by : (ℕ → Reader Counted) → ℕ → Option Lexeme → Reader Counted
+operand_by inside taken (Some (lex.Sign Open)) = inside taken
+operand_by inside taken w = do
+  x ← leaf
+  give (x, taken)
+
+abbrev pub operand_with : (ℕ → Reader Counted) → ℕ → Reader Counted
+operand_with inside taken = peek >>= operand_by inside taken
+
+-- ---- table = "join" operand operand | "union" operand operand | "agg" operand "by" [ names ] | operand
+
+abbrev pub by_word_by : Option Lexeme → Reader ℕ
+by_word_by (Some (lex.Key key.By)) = skip
+by_word_by w = refuse Unexpected
+
+-- "by"
+unfoldable pub by_word : Reader ℕ
+by_word = peek >>= by_word_by
+
+-- an operator word behind so many others of its statement
+unfoldable pub operator_word : ℕ → ℕ → Reader ℕ
+operator_word limit taken = if nat_lt taken limit then skip else refuse TooMany
+
+-- two operands behind an operator word
+abbrev pub two_by : (AstNode → AstNode → AstOp) → (ℕ → Reader Counted) → ℕ → ℕ → Reader Counted
+two_by what operand taken at = do
+  a ← operand (taken + 1)
+  b ← operand a.1
+  give (node at (what a.0 b.0), b.1)
+
+abbrev pub join_with : ℕ → (ℕ → Reader Counted) → ℕ → Reader Counted
+join_with limit operand taken = operator_word limit taken >>= two_by op.Join operand taken
+
+abbrev pub union_with : ℕ → (ℕ → Reader Counted) → ℕ → Reader Counted
+union_with limit operand taken = operator_word limit taken >>= two_by op.Union operand taken
+
+-- an operand and names behind an operator word
+abbrev pub agg_by : (ℕ → Reader Counted) → ℕ → ℕ → Reader Counted
+agg_by operand taken at = do
+  a ← operand (taken + 1)
+  by ← by_word
+  ns ← some_names
+  give (node at (op.Agg a.0 ns), a.1)
+
+abbrev pub agg_with : ℕ → (ℕ → Reader Counted) → ℕ → Reader Counted
+agg_with limit operand taken = operator_word limit taken >>= agg_by operand taken
+
+abbrev pub table_by : ℕ → (ℕ → Reader Counted) → ℕ → Option Lexeme → Reader Counted
+table_by limit operand taken (Some (lex.Key key.Join)) = join_with limit operand taken
+table_by limit operand taken (Some (lex.Key key.Union)) = union_with limit operand taken
+table_by limit operand taken (Some (lex.Key key.Agg)) = agg_with limit operand taken
+table_by limit operand taken w = operand taken
+
+abbrev pub table_with : ℕ → (ℕ → Reader Counted) → ℕ → Reader Counted
+table_with limit operand taken = peek >>= table_by limit operand taken
+
+-- "(" table ")", with the same numbers as operand
+unfoldable pub inside : ℕ → ℕ → ℕ → Reader Counted
+inside limit zero taken = refuse TooMany
+inside limit (suc levels) taken = do
+  at ← skip
+  x ← table_with limit (operand_with (inside limit levels)) taken
+  end ← sign Close
+  give x
+
+-- An operand: so many operator words a statement may have, so many levels of ( may still be opened, so many operator words stand before it.
+unfoldable pub operand : ℕ → ℕ → ℕ → Reader Counted
+operand limit levels taken = operand_with (inside limit levels) taken
+
+-- the same of a table
+unfoldable pub table : ℕ → ℕ → ℕ → Reader Counted
+table limit levels taken = table_with limit (operand limit levels) taken
 
 -- ---- statement = NAME "=" table ";" | "print" NAME [ "by" [ names ] ] ";"
 
@@ -270,23 +357,23 @@ some_order_by w = give None
 unfoldable pub some_order : Reader (Option AstBy)
 some_order = peek >>= some_order_by
 
-abbrev pub statement_by : Option Lexeme → Reader AstStatement
-statement_by (Some (lex.Name n)) = do
+abbrev pub statement_by : Limits → Option Lexeme → Reader AstStatement
+statement_by limits (Some (lex.Name n)) = do
   x ← name
   is ← sign Is
-  t ← table
+  t ← table limits.operators limits.levels 0
   end ← sign Semi
-  give (st.Assign x.at x t)
-statement_by (Some (lex.Key key.Print)) = do
+  give (st.Assign x.at x t.0)
+statement_by limits (Some (lex.Key key.Print)) = do
   at ← skip
   x ← name
   by ← some_order
   end ← sign Semi
   give (st.Print at x by)
-statement_by w = refuse Unexpected
+statement_by limits w = refuse Unexpected
 
-unfoldable pub statement : Reader AstStatement
-statement = peek >>= statement_by
+unfoldable pub statement : Limits → Reader AstStatement
+statement limits = peek >>= statement_by limits
 
 -- ---- script = { statement }
 
@@ -296,21 +383,21 @@ no_room (lex.Name n) = TooMany
 no_room (lex.Key key.Print) = TooMany
 no_room w = Unexpected
 
-abbrev pub next_by : Bool → Option Lexeme → Reader (Option AstStatement)
-next_by room None = give None
-next_by true (Some w) = do
-  x ← statement
+abbrev pub next_by : Limits → Bool → Option Lexeme → Reader (Option AstStatement)
+next_by limits room None = give None
+next_by limits true (Some w) = do
+  x ← statement limits
   give (Some x)
-next_by false (Some w) = refuse (no_room w)
+next_by limits false (Some w) = refuse (no_room w)
 
 -- the next statement, where there is room for one
-unfoldable pub next_statement : Bool → Reader (Option AstStatement)
-next_statement room = peek >>= next_by room
+unfoldable pub next_statement : Limits → Bool → Reader (Option AstStatement)
+next_statement limits room = peek >>= next_by limits room
 
--- statements behind others, so many in all
-unfoldable pub statements : ℕ → List AstStatement → Reader (List AstStatement)
-statements limit xs = list_from (λ ys. next_statement (nat_lt (length ys) limit)) xs
+-- statements behind others
+unfoldable pub statements : Limits → List AstStatement → Reader (List AstStatement)
+statements limits xs = list_from (λ ys. next_statement limits (nat_lt (length ys) limits.statements)) xs
 
--- a script of at most so many statements
-unfoldable pub script : ℕ → Reader (List AstStatement)
-script limit = statements limit []
+-- a script within limits
+unfoldable pub script : Limits → Reader (List AstStatement)
+script limits = statements limits []

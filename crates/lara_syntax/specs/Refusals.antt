@@ -7,12 +7,13 @@ use Rattle.lara_data.specs.declared.refusal.Kind.TheVariants.{Unexpected, TooMan
 use Rattle.lara_data.specs.declared.refusal.Refusal.{Refusal}
 use Rattle.lara_data.specs.declared.refusal.ReadFault.{ReadFault}
 use Rattle.lara_data.specs.declared.refusal.ReadFault.TheVariants as faults
+use Rattle.lara_syntax.specs.Limits.{most}
 use Rattle.lara_syntax.specs.Steps.{Items}
 use Rattle.lara_syntax.specs.Grammar.{Script}
 use Rattle.lara_syntax.specs.Scripts.{SomeBegins, NoneBegins, LongBegins, NoLongBegins}
 use Rattle.lara_syntax.specs.Tokens.{items_of, stop_of}
 
--- The kind of a word behind which no script goes on: too many statements, where a longer script could go on there.
+-- The kind of a word behind which no script goes on: too many, where a script goes on there with other limits.
 pub data KindOf : Kind → Items → Type 0 where
   too_many : (ts : Items) → LongBegins ts → KindOf TooMany ts
   unexpected : (ts : Items) → NoLongBegins ts → KindOf Unexpected ts
@@ -24,7 +25,7 @@ pub data Refuses (bytes : List ℕ) : Refusal → Type 0 where
       → items_of bytes ≡ before ++ bad ∷ after → SomeBegins before → NoneBegins (before ++ bad ∷ []) → KindOf kind (before ++ bad ∷ [])
       → Refuses bytes (record { at = bad.at; kind = kind })
   -- the end, where a script goes on and none ends
-  at_end : stop_of bytes ≡ None → SomeBegins (items_of bytes) → ((xs : List AstStatement) → Script 256 xs (items_of bytes) → ⊥)
+  at_end : stop_of bytes ≡ None → SomeBegins (items_of bytes) → ((xs : List AstStatement) → Script most xs (items_of bytes) → ⊥)
       → Refuses bytes (record { at = length bytes; kind = Unexpected })
   -- what is no token, behind words with which a script goes on
   at_token : (refusal : Refusal) → stop_of bytes ≡ Some refusal → SomeBegins (items_of bytes) → Refuses bytes refusal

@@ -3,14 +3,15 @@ use Rattle.std.specs.Prelude.{◌≡◌, ℕ, List, [], ◌∷◌, ◌++◌, Non
 use Rattle.lara_syntax.specs.declared.ast.Ast.{Ast}
 use Rattle.lara_syntax.specs.declared.ast.AstStatement.{AstStatement}
 use Rattle.lara_syntax.specs.declared.item.Lexeme.{Lexeme}
+use Rattle.lara_syntax.specs.Limits.{Limits, most}
 use Rattle.lara_syntax.specs.Steps.{Items}
-use Rattle.lara_syntax.specs.Grammar.{Many, Statement, Script}
+use Rattle.lara_syntax.specs.Grammar.{Script}
 use Rattle.lara_syntax.specs.Spellings.{Spells}
 use Rattle.lara_syntax.specs.Tokens.{items_of, stop_of}
 
 -- the tree stands in the grammar to the words, which are all of the bytes
 abbrev pub Stands : List ℕ → Ast → Type 0
-Stands bytes ast = Script 256 ast.statements (items_of bytes) × (stop_of bytes ≡ None)
+Stands bytes ast = Script most ast.statements (items_of bytes) × (stop_of bytes ≡ None)
 
 -- some text spells the word
 abbrev pub IsSpelled : Lexeme → Type 0
@@ -21,18 +22,26 @@ abbrev pub AreSpelled : Items → Type 0
 AreSpelled [] = Unit {0}
 AreSpelled (t ∷ ts) = IsSpelled t.lexeme × AreSpelled ts
 
+-- a script within limits begins with these words
+abbrev pub BeginsWithin : Limits → Items → Type 0
+BeginsWithin limits ts = (after : Items) × AreSpelled after × (xs : List AstStatement) × Script limits xs (ts ++ after)
+
+-- no script within limits begins with these words
+abbrev pub NoneWithin : Limits → Items → Type 0
+NoneWithin limits ts = (after : Items) (xs : List AstStatement) → Script limits xs (ts ++ after) → ⊥
+
 -- a script begins with these words
 abbrev pub SomeBegins : Items → Type 0
-SomeBegins ts = (after : Items) × AreSpelled after × (xs : List AstStatement) × Script 256 xs (ts ++ after)
+SomeBegins ts = BeginsWithin most ts
 
 -- no script begins with these words
 abbrev pub NoneBegins : Items → Type 0
-NoneBegins ts = (after : Items) (xs : List AstStatement) → Script 256 xs (ts ++ after) → ⊥
+NoneBegins ts = NoneWithin most ts
 
--- statements, however many, begin with these words
+-- with other limits a script begins with these words
 abbrev pub LongBegins : Items → Type 0
-LongBegins ts = (after : Items) × AreSpelled after × (xs : List AstStatement) × Many Statement xs (ts ++ after) []
+LongBegins ts = (limits : Limits) × BeginsWithin limits ts
 
--- no statements, however many, begin with these words
+-- whatever the limits, no script begins with these words
 abbrev pub NoLongBegins : Items → Type 0
-NoLongBegins ts = (after : Items) (xs : List AstStatement) → Many Statement xs (ts ++ after) [] → ⊥
+NoLongBegins ts = (limits : Limits) → NoneWithin limits ts

@@ -3,6 +3,7 @@ ghost use Rattle.std.specs.Prelude.{◌≡◌, ◌≤◌, ◌-◌, length, Ok, I
 ghost use Rattle.lara_syntax.specs.declared.ast.Ast.{Ast};
 ghost use Rattle.lara_data.specs.declared.refusal.Refusal.{Refusal};
 ghost use Rattle.lara_syntax.specs.Parsed.{ParseGives, FaultGives, parsed, answered, place_of, refusal_of, at_end_of, read_value};
+ghost use Rattle.lara_syntax.specs.Limits.{most};
 ghost use Rattle.lara_syntax.specs.Reading.{script};
 ghost use Rattle.lara_syntax.specs.Refusals.{Refuses, RefusesRight};
 ghost use Rattle.lara_syntax.specs.Scripts.{Stands};
@@ -15,9 +16,6 @@ use crate::rules::statements::script;
 use crate::scan::{ItemList, read_items};
 use lara_data::{ReadFault, Refusal};
 use std::alloc::Global;
-
-// How many statements a script may have.
-const MOST_STATEMENTS: usize = 256;
 
 // The place of the word from which so many are left, or that of the end.
 fn place(items: &[Item], size: u32, left: usize) -> u32
@@ -58,9 +56,9 @@ fn answer(
     items: &[Item],
     token: Option<Refusal>,
 ) -> Result<Ast, ReadFault>
-    ensures { ParseGives result (answered size items.now token (read_value (script 256 items.now))) }
+    ensures { ParseGives result (answered size items.now token (read_value (script most items.now))) }
 {
-    match script(alloc, MOST_STATEMENTS, items) {
+    match script(alloc, items) {
         Ok(statements) => match token {
             Some(token) => Err(ReadFault::Refused(token)),
             None => Ok(Ast { statements }),
@@ -84,7 +82,8 @@ fn read_script(alloc: Global, bytes: &[u8]) -> Result<Ast, ReadFault>
 }
 
 /// The tree of a script, or the first refusal: the least place at which no script goes on. A token's own refusal comes
-/// before the grammar's at the same place. A script has at most 256 statements.
+/// before the grammar's at the same place. A script has at most 256 statements, a statement at most 64 operator words, and
+/// a table at most 64 levels of `(`.
 #[tactic(auto, using(crate::proofs::ParsedLaws::parsed_laws, crate::proofs::OneRefusal::parsed_one_refusal))]
 pub fn parse(alloc: Global, bytes: &[u8]) -> Result<Ast, ReadFault>
     requires { length bytes.now ≤ 1048576 }

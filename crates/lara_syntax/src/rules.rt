@@ -1,6 +1,7 @@
 //! The rules of the grammar, each as it is read from left to right.
 pub mod columns;
 pub mod entries;
+pub mod leaves;
 pub mod names;
 pub mod statements;
 pub mod tables;

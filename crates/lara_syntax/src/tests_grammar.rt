@@ -9,7 +9,7 @@ use lara_data::{FunOp, ReadFault, TwoOp};
 use std::alloc::{AllocError, Global};
 
 // Each script with its tree: a statement, a table, an entry, a name and a value each with its place; or its refusal.
-const CASES: [(&[u8], &str); 27] = [
+const CASES: [(&[u8], &str); 39] = [
     (b"", ""),
     (b"# nothing\n", ""),
     (
@@ -24,6 +24,24 @@ const CASES: [(&[u8], &str); 27] = [
         b"T=table[k:nat,l:nat:v:count]{};print T by;print T;",
         "0 T@0 = 2 table k@8 l@14 : v@20 { } 31 print T@37 39 by 42 print T@48 ",
     ),
+    (
+        b"C = agg (join A B) by i, j;",
+        "0 C@0 = 4 agg 9 join 14 A@14 16 B@16 by i@22 j@25 ",
+    ),
+    (
+        b"C = union load A ((agg T by));",
+        "0 C@0 = 4 union 10 load A@15 19 agg 23 T@23 by ",
+    ),
+    (b"C = ((T));", "0 C@0 = 6 T@6 "),
+    (b"T = ;", "4 Unexpected"),
+    (b"T = join A;", "10 Unexpected"),
+    (b"T = join A agg B by;", "11 Unexpected"),
+    (b"T = (A;", "6 Unexpected"),
+    (b"T = (A", "6 Unexpected"),
+    (b"T = agg A;", "9 Unexpected"),
+    (b"T = agg A by i,;", "15 Unexpected"),
+    (b"T = load;", "8 Unexpected"),
+    (b"T = A B;", "6 Unexpected"),
     (b"T = ", "4 Unexpected"),
     (b"T", "1 Unexpected"),
     (b"= 1", "0 Unexpected"),
@@ -83,17 +101,54 @@ fn push_type(alloc: Global, out: &mut String, ty: &AstType) -> Result<(), AllocE
     Ok(())
 }
 
+fn push_names(alloc: Global, out: &mut String, names: &List<AstName>) -> Result<(), AllocError> {
+    for name in names {
+        push_name(alloc, out, name)?;
+    }
+    Ok(())
+}
+
+fn push_entries(
+    alloc: Global,
+    out: &mut String,
+    entries: &List<AstEntry>,
+) -> Result<(), AllocError> {
+    out.push_str("{ ")?;
+    for entry in entries {
+        push_entry(alloc, out, entry)?;
+    }
+    out.push_str("} ")
+}
+
+// The place, the word and what follows, the operands in brackets.
 fn push_node(alloc: Global, out: &mut String, node: &AstNode) -> Result<(), AllocError> {
+    out.push_str(&format!(in alloc; "{} ", node.at)?)?;
     match &node.op {
+        AstOp::Load(name) => {
+            out.push_str("load ")?;
+            push_name(alloc, out, name)
+        }
         AstOp::Named(name) => push_name(alloc, out, name),
         AstOp::Literal(ty, entries) => {
-            out.push_str(&format!(in alloc; "{} table ", node.at)?)?;
+            out.push_str("table ")?;
             push_type(alloc, out, ty)?;
-            out.push_str("{ ")?;
-            for entry in entries {
-                push_entry(alloc, out, entry)?;
-            }
-            out.push_str("} ")
+            push_entries(alloc, out, entries)
+        }
+        AstOp::Join(a, b) => {
+            out.push_str("join ")?;
+            push_node(alloc, out, a.get())?;
+            push_node(alloc, out, b.get())
+        }
+        AstOp::Union(a, b) => {
+            out.push_str("union ")?;
+            push_node(alloc, out, a.get())?;
+            push_node(alloc, out, b.get())
+        }
+        AstOp::Agg(a, names) => {
+            out.push_str("agg ")?;
+            push_node(alloc, out, a.get())?;
+            out.push_str("by ")?;
+            push_names(alloc, out, names)
         }
         _ => out.push_str("? "),
     }
@@ -186,6 +241,68 @@ fn most_statements(rt: HostRuntime) -> Result<(), AllocError> {
     if script.len() <= 1048576 {
         let got = shown(rt.alloc(), &script)?;
         assert!(rt; got.ends_with("2040 print T@2046 "));
+    }
+    Ok(())
+}
+
+// `T=`, as many times a text, and what stands behind them.
+fn repeated(
+    alloc: Global,
+    times: usize,
+    text: &[u8],
+    behind: &[u8],
+) -> Result<Vec<u8>, AllocError> {
+    let mut script = Vec::new(alloc);
+    script.extend_from_slice(b"T=")?;
+    for _ in 0..times {
+        script.extend_from_slice(text)?;
+    }
+    script.extend_from_slice(behind)?;
+    Ok(script)
+}
+
+#[test]
+fn most_levels(rt: HostRuntime) -> Result<(), AllocError> {
+    let mut script = repeated(rt.alloc(), 64, b"(", b"A")?;
+    for _ in 0..64 {
+        script.push(b')')?;
+    }
+    script.push(b';')?;
+    if script.len() <= 1048576 {
+        let got = shown(rt.alloc(), &script)?;
+        assert_eq!(rt; got.as_str(), "0 T@0 = 66 A@66 ");
+    }
+    let script = repeated(rt.alloc(), 65, b"(", b"")?;
+    if script.len() <= 1048576 {
+        let got = shown(rt.alloc(), &script)?;
+        assert_eq!(rt; got.as_str(), "66 TooMany");
+    }
+    Ok(())
+}
+
+#[test]
+fn most_operators(rt: HostRuntime) -> Result<(), AllocError> {
+    // Behind 63 operator words and as many levels, which take 506 bytes.
+    let cases: [(&[u8], &str); 3] = [
+        (b"agg A by ,", "515 Unexpected"),
+        (b"union A (join", "515 TooMany"),
+        (b"union A join", "514 Unexpected"),
+    ];
+    for (behind, want) in cases {
+        let script = repeated(rt.alloc(), 63, b"join A (", behind)?;
+        if script.len() <= 1048576 {
+            let got = shown(rt.alloc(), &script)?;
+            assert_eq!(rt; got.as_str(), want, "at {want}");
+        }
+    }
+    let mut script = repeated(rt.alloc(), 63, b"join A (", b"union A A")?;
+    for _ in 0..63 {
+        script.push(b')')?;
+    }
+    script.push(b';')?;
+    if script.len() <= 1048576 {
+        let got = shown(rt.alloc(), &script)?;
+        assert!(rt; got.ends_with("506 union 512 A@512 514 A@514 "));
     }
     Ok(())
 }

@@ -2,6 +2,7 @@
 ghost use Rattle.std.specs.Prelude.{◌≡◌, ◌∷◌, ◌+◌, ◌≤◌, ◌<◌, [], length, IfOk, nat_lt};
 ghost use Rattle.lara_syntax.specs.Steps.{Gives};
 ghost use Rattle.lara_syntax.specs.Reading.{some_order, statement, no_room, next_statement, statements, script};
+ghost use Rattle.lara_syntax.specs.Limits.{most};
 ghost use Rattle.lara_syntax.specs.Parsed.{read_value};
 
 use crate::ast::{AstBy, AstStatement};
@@ -13,6 +14,12 @@ use crate::steps::{name, next, sign, stopped};
 use lara_base::List;
 use lara_data::Kind;
 use std::alloc::Global;
+
+// How many statements a script may have.
+const MOST_STATEMENTS: usize = 256;
+
+// How many levels of `(` may stand in each other round a table.
+const MOST_LEVELS: u32 = 64;
 
 // [ "by" [ names ] ]
 #[tactic(auto, unfolding(crate::specs::Reading::some_order))]
@@ -34,7 +41,7 @@ fn some_order(alloc: Global, items: &[Item]) -> Result<(Option<AstBy>, &[Item]),
 // statement = NAME "=" table ";" | "print" NAME [ "by" [ names ] ] ";"
 #[tactic(auto, unfolding(crate::specs::Reading::statement))]
 fn statement(alloc: Global, items: &[Item]) -> Result<(AstStatement, &[Item]), Fault>
-    ensures { Gives (λ x. (x.0, x.1.now)) result (statement items.now) }
+    ensures { Gives (λ x. (x.0, x.1.now)) result (statement most items.now) }
 {
     let Some((item, rest)) = next(items) else {
         return Err(stopped(items, Kind::Unexpected));
@@ -43,7 +50,7 @@ fn statement(alloc: Global, items: &[Item]) -> Result<(AstStatement, &[Item]), F
         Lexeme::Name(_) => {
             let (name, rest) = name(alloc, items)?;
             let (_, rest) = sign(rest, Sign::Is)?;
-            let (node, rest) = table(alloc, rest)?;
+            let (node, _, rest) = table(alloc, MOST_LEVELS, 0, rest)?;
             let (_, rest) = sign(rest, Sign::Semi)?;
             let at = name.at;
             Ok((AstStatement::Assign { at, name, node }, rest))
@@ -76,7 +83,7 @@ fn next_statement(
     room: bool,
     items: &[Item],
 ) -> Result<(Option<AstStatement>, &[Item]), Fault>
-    ensures { Gives (λ x. (x.0, x.1.now)) result (next_statement room items.now) }
+    ensures { Gives (λ x. (x.0, x.1.now)) result (next_statement most room items.now) }
 {
     let Some((item, _)) = next(items) else {
         return Ok((None, items));
@@ -90,25 +97,21 @@ fn next_statement(
 }
 
 // Whether there is room for one more.
-fn has_room(before: &[AstStatement], limit: usize) -> bool
-    ensures { result ≡ nat_lt (length before.now) limit }
+fn has_room(before: &[AstStatement]) -> bool
+    ensures { result ≡ nat_lt (length before.now) 256 }
 {
-    before.len() < limit
+    before.len() < MOST_STATEMENTS
 }
 
 // script = { statement }
 #[tactic(auto, using(crate::proofs::RuleReaders::statement_laws))]
-fn statements(
-    alloc: Global,
-    limit: usize,
-    items: &[Item],
-) -> Result<(List<AstStatement>, &[Item]), Fault>
-    ensures { Gives (λ x. (x.0, x.1.now)) result (statements limit [] items.now) }
+fn statements(alloc: Global, items: &[Item]) -> Result<(List<AstStatement>, &[Item]), Fault>
+    ensures { Gives (λ x. (x.0, x.1.now)) result (statements most [] items.now) }
 {
     let mut xs = List::new(alloc);
     let mut rest = items;
     loop {
-        let room = has_room(xs.as_slice(), limit);
+        let room = has_room(xs.as_slice());
         let (x, after) = next_statement(alloc, room, rest)?;
         rest = after;
         match x {
@@ -118,11 +121,11 @@ fn statements(
     }
 }
 
-// The script that the words are, of at most so many statements.
+// The script that the words are.
 #[tactic(auto, unfolding(crate::specs::Reading::script))]
-pub fn script(alloc: Global, limit: usize, items: &[Item]) -> Result<List<AstStatement>, Fault>
-    ensures { Gives (λ x. x) result (read_value (script limit items.now)) }
+pub fn script(alloc: Global, items: &[Item]) -> Result<List<AstStatement>, Fault>
+    ensures { Gives (λ x. x) result (read_value (script most items.now)) }
 {
-    let (xs, _) = statements(alloc, limit, items)?;
+    let (xs, _) = statements(alloc, items)?;
     Ok(xs)
 }

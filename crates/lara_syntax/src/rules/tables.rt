@@ -1,34 +1,163 @@
-//! Tables.
+//! Tables, with how many operator words their statement has up to their end.
 ghost use Rattle.std.specs.Prelude.{◌≡◌, ◌∷◌, ◌+◌, ◌≤◌, ◌<◌, [], length, IfOk};
 ghost use Rattle.lara_syntax.specs.Steps.{Gives};
-ghost use Rattle.lara_syntax.specs.Reading.{table};
+ghost use Rattle.lara_syntax.specs.Reading.{by_word, operator_word, join_with, union_with, agg_with, inside, operand, table};
 
 use crate::ast::{AstNode, AstOp};
 use crate::fault::Fault;
 use crate::item::{Item, Keyword, Lexeme, Sign};
-use crate::rules::columns::table_type;
-use crate::rules::entries::some_entries;
+use crate::rules::leaves::leaf;
+use crate::rules::names::some_names;
 use crate::steps::{next, sign, stopped};
+use lara_base::Boxed;
 use lara_data::Kind;
 use std::alloc::Global;
 
-// table = "table" type "{" [ entries ] "}"
-#[tactic(auto, unfolding(crate::specs::Reading::table))]
-pub fn table(alloc: Global, items: &[Item]) -> Result<(AstNode, &[Item]), Fault>
-    ensures { Gives (λ x. (x.0, x.1.now)) result (table items.now) }
+// How many operator words a statement may have.
+const MOST_OPERATORS: u32 = 64;
+
+// The place of "by".
+#[tactic(auto, unfolding(crate::specs::Reading::by_word))]
+fn by_word(items: &[Item]) -> Result<(u32, &[Item]), Fault>
+    ensures { Gives (λ x. (x.0, x.1.now)) result (by_word items.now) }
 {
     let Some((item, rest)) = next(items) else {
         return Err(stopped(items, Kind::Unexpected));
     };
     match &item.lexeme {
-        Lexeme::Key(Keyword::Table) => {
-            let (ty, rest) = table_type(alloc, rest)?;
-            let (_, rest) = sign(rest, Sign::OpenBrace)?;
-            let (entries, rest) = some_entries(alloc, rest)?;
-            let (_, rest) = sign(rest, Sign::CloseBrace)?;
-            let op = AstOp::Literal(ty, entries);
-            Ok((AstNode { at: item.at, op }, rest))
-        }
+        Lexeme::Key(Keyword::By) => Ok((item.at, rest)),
         _ => Err(stopped(items, Kind::Unexpected)),
+    }
+}
+
+// The place of an operator word behind so many others.
+#[tactic(auto, unfolding(crate::specs::Reading::operator_word))]
+fn operator_word(items: &[Item], taken: u32) -> Result<(u32, &[Item]), Fault>
+    ensures gives { Gives (λ x. (x.0, x.1.now)) result (operator_word 64 taken items.now) }
+    ensures room { IfOk result (λ x. taken < 64) }
+{
+    if taken < MOST_OPERATORS {
+        let Some((item, rest)) = next(items) else {
+            return Err(stopped(items, Kind::Unexpected));
+        };
+        Ok((item.at, rest))
+    } else {
+        Err(stopped(items, Kind::TooMany))
+    }
+}
+
+// "join" operand operand
+#[cycle(tables)]
+fn join(
+    alloc: Global,
+    levels: u32,
+    taken: u32,
+    items: &[Item],
+) -> Result<(AstNode, u32, &[Item]), Fault>
+    ensures { Gives (λ x. ((x.0, x.1), x.2.now)) result (join_with 64 (operand 64 levels) taken items.now) }
+{
+    let (at, rest) = operator_word(items, taken)?;
+    let (a, taken, rest) = operand(alloc, levels, taken + 1, rest)?;
+    let (b, taken, rest) = operand(alloc, levels, taken, rest)?;
+    let op = AstOp::Join(Boxed::new(alloc, a)?, Boxed::new(alloc, b)?);
+    Ok((AstNode { at, op }, taken, rest))
+}
+
+// "union" operand operand
+#[cycle(tables)]
+fn union(
+    alloc: Global,
+    levels: u32,
+    taken: u32,
+    items: &[Item],
+) -> Result<(AstNode, u32, &[Item]), Fault>
+    ensures { Gives (λ x. ((x.0, x.1), x.2.now)) result (union_with 64 (operand 64 levels) taken items.now) }
+{
+    let (at, rest) = operator_word(items, taken)?;
+    let (a, taken, rest) = operand(alloc, levels, taken + 1, rest)?;
+    let (b, taken, rest) = operand(alloc, levels, taken, rest)?;
+    let op = AstOp::Union(Boxed::new(alloc, a)?, Boxed::new(alloc, b)?);
+    Ok((AstNode { at, op }, taken, rest))
+}
+
+// "agg" operand "by" [ names ]
+#[cycle(tables)]
+fn agg(
+    alloc: Global,
+    levels: u32,
+    taken: u32,
+    items: &[Item],
+) -> Result<(AstNode, u32, &[Item]), Fault>
+    ensures { Gives (λ x. ((x.0, x.1), x.2.now)) result (agg_with 64 (operand 64 levels) taken items.now) }
+{
+    let (at, rest) = operator_word(items, taken)?;
+    let (a, taken, rest) = operand(alloc, levels, taken + 1, rest)?;
+    let (_, rest) = by_word(rest)?;
+    let (names, rest) = some_names(alloc, rest)?;
+    let op = AstOp::Agg(Boxed::new(alloc, a)?, names);
+    Ok((AstNode { at, op }, taken, rest))
+}
+
+// "(" table ")", where so many levels of it may still be opened
+#[tactic(auto, using(crate::proofs::Levels::inside_laws))]
+#[cycle(tables)]
+fn inside(
+    alloc: Global,
+    levels: u32,
+    taken: u32,
+    items: &[Item],
+) -> Result<(AstNode, u32, &[Item]), Fault>
+    ensures { Gives (λ x. ((x.0, x.1), x.2.now)) result (inside 64 levels taken items.now) }
+{
+    if levels == 0 {
+        return Err(stopped(items, Kind::TooMany));
+    }
+    let Some((_, rest)) = next(items) else {
+        return Err(stopped(items, Kind::Unexpected));
+    };
+    let (x, taken, rest) = table(alloc, levels - 1, taken, rest)?;
+    let (_, rest) = sign(rest, Sign::Close)?;
+    Ok((x, taken, rest))
+}
+
+// operand = leaf | "(" table ")"
+#[tactic(auto, unfolding(crate::specs::Reading::operand))]
+#[cycle(tables)]
+fn operand(
+    alloc: Global,
+    levels: u32,
+    taken: u32,
+    items: &[Item],
+) -> Result<(AstNode, u32, &[Item]), Fault>
+    ensures { Gives (λ x. ((x.0, x.1), x.2.now)) result (operand 64 levels taken items.now) }
+{
+    if let Some((item, _)) = next(items)
+        && let Lexeme::Sign(Sign::Open) = &item.lexeme
+    {
+        return inside(alloc, levels, taken, items);
+    }
+    let (x, rest) = leaf(alloc, items)?;
+    Ok((x, taken, rest))
+}
+
+// table = "join" operand operand | "union" operand operand | "agg" operand "by" [ names ] | operand
+#[tactic(auto, unfolding(crate::specs::Reading::table))]
+#[cycle(tables)]
+pub fn table(
+    alloc: Global,
+    levels: u32,
+    taken: u32,
+    items: &[Item],
+) -> Result<(AstNode, u32, &[Item]), Fault>
+    ensures { Gives (λ x. ((x.0, x.1), x.2.now)) result (table 64 levels taken items.now) }
+{
+    let Some((item, _)) = next(items) else {
+        return operand(alloc, levels, taken, items);
+    };
+    match &item.lexeme {
+        Lexeme::Key(Keyword::Join) => join(alloc, levels, taken, items),
+        Lexeme::Key(Keyword::Union) => union(alloc, levels, taken, items),
+        Lexeme::Key(Keyword::Agg) => agg(alloc, levels, taken, items),
+        _ => operand(alloc, levels, taken, items),
     }
 }

@@ -1,0 +1,210 @@
+-- Each rule with wider limits: it gives the same, or goes past the word of which there are too many.
+use Rattle.std.proofs.Common.{inl, inr, ◌≡◌, ℕ, zero, suc, ◌<◌, ◌≤◌, ◌+◌, List, [], ◌∷◌, ◌++◌, length, Option, Some, None, Ok, Err, refl, sym, ap, subst, arith, Bool, true, false, cond, nat_lt}
+use Rattle.std.proofs.lemmas.List.{length-append}
+use Rattle.std.proofs.lemmas.Bool.{ltb-true, lt-ltb}
+use Rattle.lara_data.specs.declared.refusal.Kind.TheVariants.{Unexpected, TooMany}
+use Rattle.lara_syntax.specs.declared.item.Item.{Item}
+use Rattle.lara_syntax.specs.declared.item.Lexeme.{Lexeme}
+use Rattle.lara_syntax.specs.declared.item.Lexeme.TheVariants as lex
+use Rattle.lara_syntax.specs.declared.item.Keyword.TheVariants as key
+use Rattle.lara_syntax.specs.declared.item.Sign.TheVariants.{Is, Semi, Open, Close}
+use Rattle.lara_syntax.specs.declared.fault.Stop.{Stop}
+use Rattle.lara_syntax.specs.declared.fault.Fault.TheVariants as faults
+use Rattle.lara_syntax.specs.declared.ast.AstName.{AstName}
+use Rattle.lara_syntax.specs.declared.ast.AstNode.{AstNode}
+use Rattle.lara_syntax.specs.declared.ast.AstOp.{AstOp}
+use Rattle.lara_syntax.specs.declared.ast.AstOp.TheVariants as op
+use Rattle.lara_syntax.specs.declared.ast.AstStatement.{AstStatement}
+use Rattle.lara_syntax.specs.declared.ast.AstStatement.TheVariants as st
+use Rattle.lara_syntax.specs.Limits.{Limits}
+use Rattle.lara_syntax.specs.Steps.{Items, Read, Reader, onward, ◌>>=◌, give, refuse, skip, head_word}
+use Rattle.lara_syntax.specs.Reading as r
+use Rattle.lara_syntax.specs.Reading.{sign, node, Counted}
+use Rattle.lara_syntax.proofs.Levels.{inside_rest}
+use Rattle.lara_syntax.proofs.Turns.{read_of, erred}
+use Rattle.lara_syntax.proofs.Readers.{IsReader, reads_bind, reads_give}
+use Rattle.lara_syntax.proofs.RuleReaders.{AreReaders, sign-reads, some_names-reads, counted, by_word-reads, two_by-reads, agg_by-reads, inside_rest-reads, operand-reads, table-reads, assign_end, assign_end-reads, assign_rest, assign_rest-reads, print_rest, print_rest-reads, has_room, next_behind, next_behind-one, statements-reads, statements-some, statements-none, statements-fail}
+use Rattle.lara_syntax.proofs.Complete.{chosen, step}
+use Rattle.lara_syntax.proofs.PlainRules.{plain_bind, plain_give, plain_skip, plain_refuse, sign-plain, name-plain, some_names-plain, leaf-plain, by_word-plain, print_rest-plain}
+use Rattle.lara_syntax.proofs.Room.{room_left}
+use Rattle.lara_syntax.proofs.Wider.{Fits, Past, Wider, Widens, always, past_read, past_onward, wider_onward, widens_bind, widens_give, widens_plain, wider_of}
+
+-- ---- operators
+
+-- no more operator words than this
+abbrev pub Within : ℕ → Counted → Type 0
+Within limit x = x.1 ≤ limit
+
+abbrev pub CountWidens : ℕ → (ℕ → Reader Counted) → (ℕ → Reader Counted) → Type 0
+CountWidens limit p q = (taken : ℕ) → taken ≤ limit → Widens (Within limit) (p taken) (q taken)
+
+operator_wider : (b c : Bool) (P : Type 0) → (b ≡ true → P) → c ≡ true → (t : Item) (us : Items) → Wider (λ (at : ℕ). P) (cond b skip (refuse TooMany) (t ∷ us)) (cond c skip (refuse TooMany) (t ∷ us))
+operator_wider true true P f e t us = inl (refl, f refl)
+operator_wider false true P f e t us = inr (record { left = suc (length us); kind = TooMany }, refl, refl, omega arith)
+operator_wider b false P f e t us = absurd cc
+
+operator_widens : (limit more taken : ℕ) → limit < more → taken ≤ limit → (ts : Items) (w : Lexeme) → head_word ts ≡ Some w → Wider (λ (at : ℕ). taken < limit) (r.operator_word limit taken ts) (r.operator_word more taken ts)
+unfolding r.operator_word
+operator_widens limit more taken lt le [] w h = absurd cc
+operator_widens limit more taken lt le (t ∷ us) w h = operator_wider (nat_lt taken limit) (nat_lt taken more) (taken < limit) (ltb-true taken limit) (lt-ltb taken more (omega (arith, lt, le))) t us
+
+two_widens : (limit : ℕ) (what : AstNode → AstNode → AstOp) (o q : ℕ → Reader Counted) → AreReaders q → CountWidens limit o q → (taken : ℕ) → (at : ℕ) → taken < limit → Widens (Within limit) (r.two_by what o taken at) (r.two_by what q taken at)
+two_widens limit what o q iq w taken at lt =
+    widens_bind (Within limit) (Within limit) (o (taken + 1)) (q (taken + 1)) (λ a. o a.1 >>= λ b. give (node at (what a.0 b.0), b.1)) (λ a. q a.1 >>= λ b. give (node at (what a.0 b.0), b.1)) (w (taken + 1) (omega (arith, lt)))
+    (λ a ha. widens_bind (Within limit) (Within limit) (o a.1) (q a.1) (λ b. give (node at (what a.0 b.0), b.1)) (λ b. give (node at (what a.0 b.0), b.1)) (w a.1 ha) (λ b hb. widens_give (Within limit) (node at (what a.0 b.0), b.1) hb) (λ b. reads_give _))
+    (λ a. reads_bind (q a.1) _ (iq a.1) (λ b. reads_give _))
+
+-- an agg behind its operand, its word `by` and its names
+abbrev agg_end : ℕ → Counted → List AstName → Reader Counted
+agg_end at a ns = give (node at (op.Agg a.0 ns), a.1)
+
+abbrev names_rest : ℕ → Counted → ℕ → Reader Counted
+names_rest at a by = r.some_names >>= agg_end at a
+
+abbrev agg_rest : ℕ → Counted → Reader Counted
+agg_rest at a = r.by_word >>= names_rest at a
+
+names_rest-reads : (at : ℕ) (a : Counted) (by : ℕ) → IsReader (names_rest at a by)
+names_rest-reads at a by = reads_bind r.some_names (agg_end at a) some_names-reads (λ ns. reads_give {A = Counted} (node at (op.Agg a.0 ns), a.1))
+
+agg_widens : (limit : ℕ) (o q : ℕ → Reader Counted) → AreReaders q → CountWidens limit o q → (taken : ℕ) → (at : ℕ) → taken < limit → Widens (Within limit) (r.agg_by o taken at) (r.agg_by q taken at)
+agg_widens limit o q iq w taken at lt =
+    widens_bind (Within limit) (Within limit) (o (taken + 1)) (q (taken + 1)) (agg_rest at) (agg_rest at) (w (taken + 1) (omega (arith, lt)))
+    (λ a ha. widens_bind always (Within limit) r.by_word r.by_word (names_rest at a) (names_rest at a) (widens_plain r.by_word by_word-plain)
+    (λ by hb. widens_bind always (Within limit) r.some_names r.some_names (agg_end at a) (agg_end at a) (widens_plain r.some_names some_names-plain) (λ ns hn. widens_give (Within limit) (node at (op.Agg a.0 ns), a.1) ha) (λ ns. reads_give {A = Counted} (node at (op.Agg a.0 ns), a.1)))
+    (names_rest-reads at a))
+    (λ a. reads_bind r.by_word (names_rest at a) by_word-reads (names_rest-reads at a))
+
+table_by_widens : (limit more : ℕ) (o q : ℕ → Reader Counted) → limit < more → AreReaders q → CountWidens limit o q → (taken : ℕ) → taken ≤ limit → (w : Option Lexeme) (ts : Items) → head_word ts ≡ w → Wider (Within limit) (r.table_by limit o taken w ts) (r.table_by more q taken w ts)
+table_by_widens limit more o q lt iq w taken le (Some (lex.Key key.Join)) ts h = wider_onward (λ at. taken < limit) (Within limit) (r.two_by op.Join o taken) (r.two_by op.Join q taken) (two_widens limit op.Join o q iq w taken) (two_by-reads op.Join q iq taken) (r.operator_word limit taken ts) (r.operator_word more taken ts) (operator_widens limit more taken lt le ts (lex.Key key.Join) h)
+table_by_widens limit more o q lt iq w taken le (Some (lex.Key key.Union)) ts h = wider_onward (λ at. taken < limit) (Within limit) (r.two_by op.Union o taken) (r.two_by op.Union q taken) (two_widens limit op.Union o q iq w taken) (two_by-reads op.Union q iq taken) (r.operator_word limit taken ts) (r.operator_word more taken ts) (operator_widens limit more taken lt le ts (lex.Key key.Union) h)
+table_by_widens limit more o q lt iq w taken le (Some (lex.Key key.Agg)) ts h = wider_onward (λ at. taken < limit) (Within limit) (r.agg_by o taken) (r.agg_by q taken) (agg_widens limit o q iq w taken) (agg_by-reads q iq taken) (r.operator_word limit taken ts) (r.operator_word more taken ts) (operator_widens limit more taken lt le ts (lex.Key key.Agg) h)
+table_by_widens limit more o q lt iq w taken le v ts h = w taken le ts
+
+-- ---- levels
+
+abbrev InsideWidens : ℕ → ℕ → ℕ → ℕ → Type 0
+InsideWidens limit more levels deeper = (taken : ℕ) → taken ≤ limit → (ts : Items) → head_word ts ≡ Some (lex.Sign Open) → Wider (Within limit) (r.inside limit levels taken ts) (r.inside more deeper taken ts)
+
+operand_by_widens : (limit more levels deeper : ℕ) → InsideWidens limit more levels deeper → (taken : ℕ) → taken ≤ limit → (w : Option Lexeme) (ts : Items) → head_word ts ≡ w → Wider (Within limit) (r.operand_by (r.inside limit levels) taken w ts) (r.operand_by (r.inside more deeper) taken w ts)
+operand_by_widens limit more levels deeper iw taken le (Some (lex.Sign Open)) ts h = iw taken le ts h
+operand_by_widens limit more levels deeper iw taken le w ts h = widens_bind always (Within limit) r.leaf r.leaf (counted taken) (counted taken) (widens_plain r.leaf leaf-plain) (λ x hx. widens_give (Within limit) (x, taken) le) (λ x. reads_give {A = Counted} (x, taken)) ts
+
+operand_widens : (limit more levels deeper : ℕ) → InsideWidens limit more levels deeper → CountWidens limit (r.operand limit levels) (r.operand more deeper)
+unfolding r.operand
+operand_widens limit more levels deeper iw taken le ts = operand_by_widens limit more levels deeper iw taken le (head_word ts) ts refl
+
+table_from : (limit more levels deeper : ℕ) → limit < more → InsideWidens limit more levels deeper → CountWidens limit (r.table limit levels) (r.table more deeper)
+unfolding r.table
+table_from limit more levels deeper lt iw taken le ts = table_by_widens limit more (r.operand limit levels) (r.operand more deeper) lt (operand-reads more deeper) (operand_widens limit more levels deeper iw) taken le (head_word ts) ts refl
+
+-- a table in brackets is closed
+closed_widens : (limit : ℕ) (x : Counted) → x.1 ≤ limit → Widens (Within limit) (sign Close >>= λ end. give x) (sign Close >>= λ end. give x)
+closed_widens limit x le = widens_bind always (Within limit) (sign Close) (sign Close) (λ end. give x) (λ end. give x) (widens_plain (sign Close) (sign-plain Close)) (λ end he. widens_give (Within limit) x le) (λ end. reads_give x)
+
+inside_widens : (limit more levels deeper : ℕ) → limit < more → levels < deeper → InsideWidens limit more levels deeper
+unfolding r.inside r.table r.operand
+inside_widens limit more levels zero lt deep taken le ts h = absurd (omega (arith, deep))
+inside_widens limit more levels (suc deeper) lt deep taken le [] h = absurd cc
+inside_widens limit more zero (suc deeper) lt deep taken le (t ∷ us) h =
+    inr (record { left = suc (length us); kind = TooMany }, refl, refl, past_read (inside_rest more deeper taken t.at) (inside_rest-reads more deeper taken t.at) (suc (length us)) us (omega arith) (inside_rest more deeper taken t.at us) refl)
+inside_widens limit more (suc levels) (suc deeper) lt deep taken le (t ∷ us) h =
+    widens_bind (Within limit) (Within limit) (r.table limit levels taken) (r.table more deeper taken) (λ x. sign Close >>= λ end. give x) (λ x. sign Close >>= λ end. give x) (table_from limit more levels deeper lt (inside_widens limit more levels deeper lt (omega (arith, deep))) taken le)
+    (closed_widens limit) (λ x. reads_bind (sign Close) _ (sign-reads Close) (λ end. reads_give x)) us
+
+table_widens : (limit more levels deeper : ℕ) → limit < more → levels < deeper → CountWidens limit (r.table limit levels) (r.table more deeper)
+table_widens limit more levels deeper lt deep = table_from limit more levels deeper lt (inside_widens limit more levels deeper lt deep)
+
+-- ---- statements
+
+-- less of each
+abbrev pub Less : Limits → Limits → Type 0
+Less a b = (a.statements < b.statements) × (a.levels < b.levels) × (a.operators < b.operators)
+
+assign_widens : (a b : Limits) → Less a b → (x : AstName) → Widens always (assign_rest a x) (assign_rest b x)
+assign_widens a b less x =
+    widens_bind always always (sign Is) (sign Is) (λ is. r.table a.operators a.levels 0 >>= assign_end x) (λ is. r.table b.operators b.levels 0 >>= assign_end x) (widens_plain (sign Is) (sign-plain Is))
+    (λ is h. widens_bind (Within a.operators) always (r.table a.operators a.levels 0) (r.table b.operators b.levels 0) (assign_end x) (assign_end x) (table_widens a.operators b.operators a.levels b.levels less.2 less.1 0 (omega arith))
+    (λ t k. widens_plain (assign_end x t) (plain_bind (sign Semi) (λ end. give (st.Assign x.at x t.0)) (sign-plain Semi) (λ end. plain_give _))) (assign_end-reads x))
+    (λ is. reads_bind (r.table b.operators b.levels 0) (assign_end x) (table-reads b.operators b.levels 0) (assign_end-reads x))
+
+statement_by_widens : (a b : Limits) → Less a b → (w : Option Lexeme) → Widens always (r.statement_by a w) (r.statement_by b w)
+statement_by_widens a b less (Some (lex.Name n)) = widens_bind always always r.name r.name (assign_rest a) (assign_rest b) (widens_plain r.name name-plain) (λ x h. assign_widens a b less x) (assign_rest-reads b)
+statement_by_widens a b less (Some (lex.Key key.Print)) = widens_plain (skip >>= print_rest) (plain_bind skip print_rest plain_skip print_rest-plain)
+statement_by_widens a b less w = widens_plain (refuse Unexpected) plain_refuse
+
+statement_widens : (a b : Limits) → Less a b → Widens always (r.statement a) (r.statement b)
+unfolding r.statement
+statement_widens a b less ts = statement_by_widens a b less (head_word ts) ts
+
+-- a word of a statement's begin is read
+name_begins : (limits : Limits) (n : List ℕ) (t : Item) (us : Items) → t.lexeme ≡ lex.Name n → Past (suc (length us)) (r.statement limits (t ∷ us))
+unfolding r.statement r.name
+name_begins limits n t us e =
+    let x : AstName = record { name = n; at = t.at } in
+    let next = ap (λ (l : Lexeme). Some l) e in
+    let named : r.name (t ∷ us) ≡ read_of x us = chosen r.name_by (t ∷ us) (Some (lex.Name n)) (read_of x us) next refl in
+    let read : r.statement limits (t ∷ us) ≡ assign_rest limits x us = chosen (r.statement_by limits) (t ∷ us) (Some (lex.Name n)) (assign_rest limits x us) next (step r.name (assign_rest limits) (t ∷ us) x us (assign_rest limits x us) named refl) in
+    subst (λ (q : Read AstStatement). Past (suc (length us)) q) (sym read) (past_read (assign_rest limits x) (assign_rest-reads limits x) (suc (length us)) us (omega arith) (assign_rest limits x us) refl)
+
+print_begins : (limits : Limits) (t : Item) (us : Items) → t.lexeme ≡ lex.Key key.Print → Past (suc (length us)) (r.statement limits (t ∷ us))
+unfolding r.statement
+print_begins limits t us e =
+    let read : r.statement limits (t ∷ us) ≡ print_rest t.at us = chosen (r.statement_by limits) (t ∷ us) (Some (lex.Key key.Print)) (print_rest t.at us) (ap (λ (l : Lexeme). Some l) e) refl in
+    subst (λ (q : Read AstStatement). Past (suc (length us)) q) (sym read) (past_read (print_rest t.at) (print_rest-reads t.at) (suc (length us)) us (omega arith) (print_rest t.at us) refl)
+
+abbrev some_of : AstStatement → Reader (Option AstStatement)
+some_of x = give (Some x)
+
+-- a statement more than there is room for
+full_wider : (b : Limits) (w : Lexeme) (t : Item) (us : Items) → t.lexeme ≡ w → Wider always (r.next_by b false (Some w) (t ∷ us)) (onward (r.statement b (t ∷ us)) some_of)
+unfolding r.statement
+full_wider b (lex.Name n) t us e = inr (record { left = suc (length us); kind = TooMany }, refl, refl, past_onward (suc (length us)) (r.statement b (t ∷ us)) some_of (λ x. reads_give (Some x)) (name_begins b n t us e))
+full_wider b (lex.Key key.Print) t us e = inr (record { left = suc (length us); kind = TooMany }, refl, refl, past_onward (suc (length us)) (r.statement b (t ∷ us)) some_of (λ x. reads_give (Some x)) (print_begins b t us e))
+full_wider b w t us e = inl (ap (λ (l : Lexeme). onward (r.statement_by b (Some l) (t ∷ us)) some_of) (sym e), refl)
+
+next_by_widens : (a b : Limits) → Less a b → (room more_room : Bool) → more_room ≡ true → (ts : Items) → Wider always (r.next_by a room (head_word ts) ts) (r.next_by b more_room (head_word ts) ts)
+next_by_widens a b less room false e ts = absurd cc
+next_by_widens a b less room true e [] = inl (refl, tt)
+next_by_widens a b less true true e (t ∷ us) = widens_bind always always (r.statement a) (r.statement b) some_of some_of (statement_widens a b less) (λ x h. widens_give always (Some x) tt) (λ x. reads_give (Some x)) (t ∷ us)
+next_by_widens a b less false true e (t ∷ us) = full_wider b t.lexeme t us refl
+
+next_widens : (a b : Limits) → Less a b → (acc : List AstStatement) → length acc ≤ a.statements → Widens always (next_behind a acc) (next_behind b acc)
+unfolding r.next_statement
+next_widens a b less acc le ts = next_by_widens a b less (has_room a acc) (has_room b acc) (lt-ltb (length acc) b.statements (omega (arith, le, less.0))) ts
+
+-- ---- scripts
+
+-- what the loop with wider limits does, where this one stops at a word of which there are too many
+past_next : (b : Limits) (n : ℕ) (acc : List AstStatement) (ts : Items) (p : Read (Option AstStatement)) → next_behind b acc ts ≡ p → Past n p → Past n (r.statements b acc ts)
+past_next b n acc ts (Ok (None, m)) h lt = subst (λ (q : Read (List AstStatement)). Past n q) (sym (statements-none b acc ts None m h refl)) lt
+past_next b n acc ts (Ok (Some x, m)) h lt = subst (λ (q : Read (List AstStatement)). Past n q) (sym (statements-some b acc ts x m h)) (past_read (r.statements b (acc ++ x ∷ [])) (statements-reads b (acc ++ x ∷ [])) n m lt (r.statements b (acc ++ x ∷ []) m) refl)
+past_next b n acc ts (Err c) h lt = subst (λ (q : Read (List AstStatement)). Past n q) (sym (statements-fail b acc ts (faults.Stopped c) h)) lt
+
+abbrev LoopWidens : Limits → Limits → ℕ → Type 0
+LoopWidens a b n = (acc : List AstStatement) (ts : Items) → length ts < n → length acc ≤ a.statements → Wider always (r.statements a acc ts) (r.statements b acc ts)
+
+same_next : (a b : Limits) (n : ℕ) → LoopWidens a b n → (acc : List AstStatement) (ts : Items) (o : Read (Option AstStatement)) → next_behind a acc ts ≡ o → next_behind b acc ts ≡ o → ((d : Stop) → o ≡ erred d → d.kind ≡ Unexpected) → length ts < suc n → Wider always (r.statements a acc ts) (r.statements b acc ts)
+same_next a b n next acc ts (Ok (None, m)) h k fits lt =
+    wider_of always (r.statements a acc ts) (read_of acc m) (r.statements b acc ts) (read_of acc m) (statements-none a acc ts None m h refl) (statements-none b acc ts None m k refl) (inl (refl, tt))
+same_next a b n next acc ts (Ok (Some x, m)) h k fits lt =
+    let room = room_left a acc ts x m h in
+    wider_of always (r.statements a acc ts) (r.statements a (acc ++ x ∷ []) m) (r.statements b acc ts) (r.statements b (acc ++ x ∷ []) m) (statements-some a acc ts x m h) (statements-some b acc ts x m k)
+    (next (acc ++ x ∷ []) m (omega (arith, lt, (next_behind-one a acc).shorter ts x m h)) (omega (arith, room, length-append acc (x ∷ []))))
+same_next a b n next acc ts (Err c) h k fits lt =
+    wider_of always (r.statements a acc ts) (erred c) (r.statements b acc ts) (erred c) (statements-fail a acc ts (faults.Stopped c) h) (statements-fail b acc ts (faults.Stopped c) k) (inl (refl, fits c refl))
+
+fits_kind : {A : Type 0} (o : Read A) → Fits always o → (d : Stop) → o ≡ erred d → d.kind ≡ Unexpected
+fits_kind o fits d e = subst (λ (q : Read _). Fits always q) e fits
+
+loop_by : (a b : Limits) (n : ℕ) → LoopWidens a b n → (acc : List AstStatement) (ts : Items) → length ts < suc n → Wider always (next_behind a acc ts) (next_behind b acc ts) → Wider always (r.statements a acc ts) (r.statements b acc ts)
+loop_by a b n next acc ts lt (inl h) = same_next a b n next acc ts (next_behind a acc ts) refl (sym h.0) (fits_kind (next_behind a acc ts) h.1) lt
+loop_by a b n next acc ts lt (inr h) = inr (h.0, statements-fail a acc ts (faults.Stopped h.0) h.1, h.2, past_next b h.0.left acc ts (next_behind b acc ts) refl h.3)
+
+loop_widens : (a b : Limits) → Less a b → (n : ℕ) → LoopWidens a b n
+loop_widens a b less zero acc ts lt le = absurd (omega arith)
+loop_widens a b less (suc n) acc ts lt le = loop_by a b n (loop_widens a b less n) acc ts lt (next_widens a b less acc le ts)
+
+pub script_widens : (a b : Limits) → Less a b → Widens always (r.script a) (r.script b)
+unfolding r.script
+script_widens a b less ts = loop_widens a b less (suc (length ts)) [] ts (omega arith) (omega arith)
