@@ -4,7 +4,7 @@ use Rattle.std.specs.Prelude.{◌≡◌, ℕ, Result, Ok, Err}
 use Rattle.lara.specs.declared.outcome.Outcome.{Outcome}
 use Rattle.lara.specs.declared.outcome.Outcome.TheVariants.{Done, Usage, Script, Triples, Choice, Range, Damaged, DepotFault, SourceFault, SinkFault, Full, Memory}
 use Rattle.lara.specs.Stops.{Stop, Reaches}
-use Rattle.lara.specs.Steps.{◌>>=◌}
+use Rattle.lara_types.specs.Steps.{◌>>=◌}
 use Rattle.lara.specs.Endings.{Device, no_fault, causes, StopsWith, Stopped, Gives, UsageExactly}
 
 -- a stop of a step is a stop of what begins with it

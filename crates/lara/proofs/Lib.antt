@@ -1,10 +1,6 @@
 pub mod Chains
-pub mod CheckedScripts
-pub mod ColumnNames
-pub mod EntryValues
-pub mod EvaluationSteps
 pub mod Limits
+pub mod NoTables
+pub mod PrintFacts
 pub mod Reaching
-pub mod SeenNames
 pub mod TextFacts
-pub mod Walks

@@ -1,14 +1,9 @@
-pub mod Checks
-pub mod Denotations
 pub mod Endings
-pub mod Evaluations
 pub mod Lines
-pub mod Literals
+pub mod Prints
 pub mod Ruling
 pub mod Scripts
-pub mod Seen
 pub mod Statuses
-pub mod Steps
 pub mod Stops
 pub mod TableTexts
 pub mod Words

@@ -14,8 +14,7 @@ use Rattle.lara_data.specs.declared.table_type.ValCol.{ValCol}
 use Rattle.lara_data.specs.TableTypes.{Columns}
 use Rattle.lara_data.specs.declared.entry.Keyed.{Keyed}
 use Rattle.lara_data.specs.Names.{same_name}
-use Rattle.lara_data.specs.Tables.{stored}
-use Rattle.lara_data.specs.Tables.{Table}
+use Rattle.lara_data.specs.Tables.{stored, Table}
 
 -- the texts of the items, with a text between each two
 abbrev pub joined : {X : Type 0} → List ℕ → (X → List ℕ) → List X → List ℕ

@@ -5,7 +5,7 @@ use Rattle.lara.specs.declared.words.Command.{Command}
 use Rattle.lara.specs.declared.words.Command.TheVariants.{Run}
 use Rattle.lara.specs.declared.outcome.Outcome.TheVariants.{Usage}
 use Rattle.lara.specs.Stops.{Stop, stop}
-use Rattle.lara.specs.Steps.{◌>>=◌}
+use Rattle.lara_types.specs.Steps.{◌>>=◌}
 
 -- the command of this name
 abbrev pub name_of : List ℕ → Result Command Stop

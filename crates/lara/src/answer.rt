@@ -1,16 +1,21 @@
-//! The answer to a script: its tree, its types, its text, or the first refusal.
-ghost use Rattle.std.specs.Prelude.{◌≡◌, ◌≤◌, length, IfOk, IfErr};
+//! The answer to a script: its tree, its types, what it prints, its text, or the first refusal.
+ghost use Rattle.std.specs.Prelude.{◌≡◌, ◌≤◌, ◌<◌, ◌^◌, [], length, IfOk, IfErr};
+ghost use Rattle.lara_data.specs.Plugins.{handed};
+ghost use Rattle.lara_data.specs.Fits.{ScriptFits};
+ghost use Rattle.lara_data.specs.Denotations.{denotation};
+ghost use Rattle.lara_types.specs.Checks.{checked};
 ghost use Rattle.lara.specs.Scripts.{tree_of, at_step, outcome_of_fault};
-ghost use Rattle.lara.specs.Checks.{checked};
 ghost use Rattle.lara.specs.Ruling.{script_ruling};
 ghost use Rattle.lara.specs.Endings.{Gives, StopsScript, no_fault};
+ghost use Rattle.lara.specs.declared.outcome.Outcome.TheVariants.{Memory};
 
-use crate::check::check_script;
-use crate::evaluate::script_text;
 use crate::outcome::Outcome;
-use crate::script::Statement;
+use crate::prints::prints_text;
+use lara_assoc::{Answers, eval};
 use lara_base::{Bytes, List};
+use lara_data::{Plugin, Script};
 use lara_syntax::{Ast, ReadFault, parse};
+use lara_types::check;
 use std::alloc::Global;
 
 // The outcome of a script that was not read.
@@ -36,23 +41,43 @@ fn read_tree(alloc: Global, script: &[u8]) -> Result<Ast, Outcome>
     parse(alloc, script).map_err(unread)
 }
 
-// The typed statements of a tree.
-fn read_types(alloc: Global, tree: &Ast) -> Result<List<Statement>, Outcome>
-    ensures gives { Gives (λ statements. statements) no_fault (at_step 6 (checked tree.now)) result }
+// The typed script of a tree, over no stored tables.
+fn read_types(alloc: Global, tree: &Ast, plugins: &Vec<Box<dyn Plugin>>) -> Result<Script, Outcome>
+    ensures gives { Gives (λ statements. statements) no_fault (at_step 6 (checked [] tree.now)) result }
     ensures few { IfOk result (λ statements. length statements ≡ length tree.now.statements) }
+    ensures fits { IfOk result (ScriptFits (handed ⟦<dyn Plugin as Plugin>⟧ plugins.now.items) []) }
     ensures stops { IfErr result StopsScript }
 {
-    check_script(alloc, tree).map_err(unread)
+    check(alloc, tree, &List::new(alloc), plugins).map_err(unread)
+}
+
+// What a typed script prints and stores, over no stored tables.
+fn evaluate(
+    alloc: Global,
+    script: &Script,
+    plugins: &Vec<Box<dyn Plugin>>,
+) -> Result<Answers, Outcome>
+    requires few { length script.now < 2 ^ 32 }
+    requires fits { ScriptFits (handed ⟦<dyn Plugin as Plugin>⟧ plugins.now.items) [] script.now }
+    ensures means { IfOk result (λ answers. answers ≡ denotation (handed ⟦<dyn Plugin as Plugin>⟧ plugins.now.items) [] script.now) }
+    ensures stops { IfErr result (λ outcome. outcome ≡ Memory) }
+{
+    Ok(eval(alloc, script, &List::new(alloc), plugins)?)
 }
 
 /// The text of what a script prints.
 #[tactic(auto, unfolding(crate::specs::Ruling::script_ruling))]
-pub fn answer(alloc: Global, script: &[u8]) -> Result<Bytes, Outcome>
+pub fn answer(
+    alloc: Global,
+    script: &[u8],
+    plugins: &Vec<Box<dyn Plugin>>,
+) -> Result<Bytes, Outcome>
     requires { length script.now ≤ 1048576 }
-    ensures gives { Gives (λ text. text) no_fault (script_ruling script.now) result }
+    ensures gives { Gives (λ text. text) no_fault (script_ruling (handed ⟦<dyn Plugin as Plugin>⟧ plugins.now.items) script.now) result }
     ensures stops { IfErr result StopsScript }
 {
     let tree = read_tree(alloc, script)?;
-    let statements = read_types(alloc, &tree)?;
-    script_text(alloc, &statements)
+    let script = read_types(alloc, &tree, plugins)?;
+    let answers = evaluate(alloc, &script, plugins)?;
+    prints_text(alloc, &answers.prints)
 }

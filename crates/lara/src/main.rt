@@ -6,18 +6,12 @@
 
 mod answer;
 mod arguments;
-mod check;
-mod column_types;
-mod entries;
-mod evaluate;
 mod input;
 mod line;
-mod orders;
 mod outcome;
 mod output;
-mod refuse;
+mod prints;
 mod report;
-mod script;
 mod table_text;
 mod top;
 mod words;
@@ -34,7 +28,14 @@ fn main(rt: HostRuntime) -> ExitCode {
     let mut out = StdoutSink::new(rt.stdout());
     let mut err = StderrSink::new(rt.stderr());
     let outcome = match arguments(alloc, &rt) {
-        Ok(words) => lara(alloc, &words, &mut input, &mut out, &mut err),
+        Ok(words) => lara(
+            alloc,
+            &words,
+            &mut input,
+            &mut out,
+            &mut err,
+            &Vec::new(alloc),
+        ),
         Err(_) => {
             report::report(&mut err, Outcome::Memory);
             Outcome::Memory
@@ -45,5 +46,9 @@ fn main(rt: HostRuntime) -> ExitCode {
 
 #[cfg(test)]
 mod tests;
+#[cfg(test)]
+mod tests_operators;
+#[cfg(test)]
+mod tests_random;
 #[cfg(test)]
 mod tests_tables;

@@ -1,29 +1,29 @@
 -- Columns by their names.
-use Rattle.std.specs.Prelude.{◌≡◌, ◌<◌, ◌+◌, ℕ, Bool, true, false, ◌||◌, List, [], ◌∷◌, ◌++◌, take, length}
+use Rattle.std.specs.Prelude.{◌≡◌, ◌<◌, ◌+◌, ℕ, Bool, true, false, ◌&&◌, ◌||◌, List, [], ◌∷◌, ◌++◌, take, length}
 use Rattle.std.specs.Bool.{IsTrue}
+use Rattle.std.specs.List.{list_all}
 use Rattle.std.proofs.Common.{refl, sym, ap, ◌∙◌, get_or, add-one, rules}
 use Rattle.std.proofs.Math.Seq.{take-suc}
 use Rattle.std.proofs.lemmas.Grind.{flat_map-append}
 use Rattle.std.proofs.lemmas.List.{append-nil}
-use Rattle.std.specs.Str.{bytes_eq}
-use Rattle.std.proofs.lemmas.Slice.Eq.{bytes_eq-Decides}
 use Rattle.lara_data.specs.declared.table_type.KeyCol.{KeyCol}
 use Rattle.lara_data.specs.declared.table_type.ValCol.{ValCol}
 use Rattle.lara_data.specs.TableTypes.{Columns, key_names, has_key, are_columns}
-use Rattle.lara_data.specs.Names.{Name, same_name, has, among, distinct}
+use Rattle.lara_data.specs.Names.{Name, has, among, distinct}
 use Rattle.lara_data.specs.Algebra.{key_col, key_cols, join_columns, union_columns, agg_columns}
 use Rattle.lara_data.specs.TypeRules.{types_differ, is_none, too_many}
 use Rattle.lara_data.specs.TypeRuleLaws.{join_are_columns, union_are_columns, agg_are_columns}
-use Rattle.lara_data.specs.Sequences.{equal_tests}
-
-turned : (a b : Name) → same_name b a ≡ bytes_eq a b
-unfolding same_name
-turned a b = equal_tests (bytes_eq b a) (bytes_eq a b) (λ e. (bytes_eq-Decides a b).1 (sym ((bytes_eq-Decides b a).0 e))) (λ e. (bytes_eq-Decides b a).1 (sym ((bytes_eq-Decides a b).0 e)))
+use Rattle.lara_data.specs.Sequences.{turned_name}
 
 pub has_names : (keys : List KeyCol) (n : Name) → has (key_names keys) n ≡ has_key n keys
 unfolding has
 has_names [] n = refl
-has_names (k ∷ keys) n = λ i. turned k.name n i || has_names keys n i
+has_names (k ∷ keys) n = λ i. turned_name k.name n i || has_names keys n i
+
+pub among_all : (ns ms : List Name) → among ns ms ≡ list_all (has ns) ms
+unfolding among
+among_all ns [] = refl
+among_all ns (m ∷ ms) = ap (λ b. has ns m && b) (among_all ns ms)
 
 pub from_true : (b : Bool) → IsTrue b → b ≡ true
 from_true true h = refl

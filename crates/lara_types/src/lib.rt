@@ -1,13 +1,23 @@
-//! The types of operators: the columns of what a join, a union or an agg makes, or the kind of the first rule that is
-//! broken.
+//! The types of scripts: from the tree with places to typed statements, or the first refusal; and the types of operators.
 #![tactic(auto)]
 
+mod agg_places;
 mod differ;
+mod literal_entries;
+mod literal_types;
 mod named;
+mod orders;
+mod refuse;
 mod result_cols;
 mod rules;
+mod scripts;
+mod stored;
+mod trees;
 
 pub use rules::{Typed, type_agg, type_join, type_union};
+pub use scripts::check;
 
 #[cfg(test)]
 mod tests;
+#[cfg(test)]
+mod tests_scripts;

@@ -1,5 +1,6 @@
 //! Names among names, and columns by their names.
 ghost use Rattle.std.specs.Prelude.{◌≡◌};
+ghost use Rattle.std.specs.List.{list_all};
 ghost use Rattle.lara_data.specs.Names.{has, among, distinct};
 ghost use Rattle.lara_data.specs.TableTypes.{has_key, has_val, key_names};
 
@@ -36,21 +37,18 @@ pub fn has(names: &[Name], name: &Name) -> bool
     names.iter().any(|n| name.same(n))
 }
 
+fn all_are_key_names(keys: &[KeyCol], names: &[Name]) -> bool
+    ensures { result ≡ list_all (has (key_names keys.now)) names.now }
+{
+    names.iter().all(|name| is_key_name(keys, name))
+}
+
 /// Whether each of the names is a key column's.
-#[tactic(auto, unfolding(lara_data::specs::Names::among))]
+#[tactic(auto, using(crate::proofs::ColumnFacts::among_all))]
 pub fn are_key_names(keys: &[KeyCol], names: &[Name]) -> bool
     ensures { result ≡ among (key_names keys.now) names.now }
 {
-    match names {
-        [] => true,
-        [first, rest @ ..] => {
-            if is_key_name(keys, first) {
-                are_key_names(keys, rest)
-            } else {
-                false
-            }
-        }
-    }
+    all_are_key_names(keys, names)
 }
 
 /// Whether no name stands twice. Where the names are among a few, this takes that many turns over them at most.

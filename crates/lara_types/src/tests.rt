@@ -39,36 +39,47 @@ fn columns(alloc: Global, key_names: &[u8], val_names: &[u8]) -> Result<TableTyp
     TableType::new(keys, vals).ok_or(AllocError)
 }
 
-// Whether this name is of one letter, and which.
-fn is_letter(name: &Name, letter: u8) -> bool {
-    match name.bytes().as_slice() {
-        [only] => *only == letter,
-        _ => false,
-    }
+// The type of a join; each side is its key columns and its value columns.
+fn join_of(alloc: Global, a: [&[u8]; 2], b: [&[u8]; 2]) -> Typed {
+    let a = columns(alloc, a[0], a[1])?;
+    let b = columns(alloc, b[0], b[1])?;
+    type_join(alloc, &a, &b)
 }
 
-// Whether the columns of the type have these names, keys first.
-fn has_columns(ty: &TableType, letters: &[u8]) -> bool {
-    let mut at = 0;
+fn union_of(alloc: Global, a: [&[u8]; 2], b: [&[u8]; 2]) -> Typed {
+    let a = columns(alloc, a[0], a[1])?;
+    let b = columns(alloc, b[0], b[1])?;
+    type_union(alloc, &a, &b)
+}
+
+fn agg_of(alloc: Global, a: [&[u8]; 2], keys: &[u8]) -> Typed {
+    let a = columns(alloc, a[0], a[1])?;
+    type_agg(alloc, &a, &names(alloc, keys)?)
+}
+
+// The names of the columns, keys first.
+fn letters_of(alloc: Global, ty: &TableType) -> Result<String, AllocError> {
+    let mut letters = String::new(alloc);
     for key in ty.keys.as_slice() {
-        if at >= letters.len() || !is_letter(&key.name, letters[at]) {
-            return false;
-        }
-        at += 1;
+        push_name(&mut letters, &key.name)?;
     }
     for val in ty.vals.as_slice() {
-        if at >= letters.len() || !is_letter(&val.name, letters[at]) {
-            return false;
-        }
-        at += 1;
+        push_name(&mut letters, &val.name)?;
     }
-    at == letters.len()
+    Ok(letters)
+}
+
+fn push_name(letters: &mut String, name: &Name) -> Result<(), AllocError> {
+    for byte in name.bytes().as_slice() {
+        letters.push(char::from(*byte))?;
+    }
+    Ok(())
 }
 
 // Whether the rules give a type with columns of these names.
-fn gives(typed: Typed, letters: &[u8]) -> Result<bool, AllocError> {
+fn gives(alloc: Global, typed: Typed, letters: &str) -> Result<bool, AllocError> {
     match typed? {
-        Ok(ty) => Ok(has_columns(&ty, letters)),
+        Ok(ty) => Ok(letters_of(alloc, &ty)?.as_str() == letters),
         Err(_) => Ok(false),
     }
 }
@@ -83,38 +94,54 @@ fn refuses(typed: Typed, kind: Kind) -> Result<bool, AllocError> {
 #[test]
 fn joins_have_left_keys_then_right_ones_and_common_values(rt: HostRuntime) -> Result<(), Fail> {
     let alloc = rt.alloc();
-    let a = columns(alloc, b"ik", b"xv")?;
-    let b = columns(alloc, b"kj", b"vw")?;
-    assert!(rt; gives(type_join(alloc, &a, &b), b"ikjv")?);
-    let c = columns(alloc, b"k", b"w")?;
-    assert!(rt; refuses(type_join(alloc, &a, &c), Kind::NoCommonValue)?);
-    let d = columns(alloc, b"v", b"x")?;
-    assert!(rt; refuses(type_join(alloc, &a, &d), Kind::TypesDiffer)?);
-    let e = columns(alloc, b"abcdefgh", b"v")?;
-    assert!(rt; refuses(type_join(alloc, &a, &e), Kind::TooManyColumns)?);
+    let typed = join_of(alloc, [b"ik", b"xv"], [b"kj", b"vw"]);
+    assert!(rt; gives(alloc, typed, "ikjv")?);
+    Ok(())
+}
+
+#[test]
+fn joins_are_refused_by_the_first_broken_rule(rt: HostRuntime) -> Result<(), Fail> {
+    let alloc = rt.alloc();
+    assert!(rt;
+        refuses(
+            join_of(alloc, [b"ik", b"xv"], [b"k", b"w"]),
+            Kind::NoCommonValue
+        )?
+    );
+    assert!(rt;
+        refuses(
+            join_of(alloc, [b"ik", b"xv"], [b"v", b"x"]),
+            Kind::TypesDiffer
+        )?
+    );
+    assert!(rt;
+        refuses(
+            join_of(alloc, [b"ik", b"v"], [b"abcdefgh", b"v"]),
+            Kind::TooManyColumns
+        )?
+    );
     Ok(())
 }
 
 #[test]
 fn unions_have_common_keys_and_all_values(rt: HostRuntime) -> Result<(), Fail> {
     let alloc = rt.alloc();
-    let a = columns(alloc, b"ik", b"xv")?;
-    let b = columns(alloc, b"kj", b"vw")?;
-    assert!(rt; gives(type_union(alloc, &a, &b), b"kxvw")?);
-    let c = columns(alloc, b"v", b"x")?;
-    assert!(rt; refuses(type_union(alloc, &a, &c), Kind::TypesDiffer)?);
-    let d = columns(alloc, b"i", b"abcdefgh")?;
-    assert!(rt; refuses(type_union(alloc, &a, &d), Kind::TooManyColumns)?);
+    let typed = union_of(alloc, [b"ik", b"xv"], [b"kj", b"vw"]);
+    assert!(rt; gives(alloc, typed, "kxvw")?);
+    assert!(rt;
+        refuses(
+            union_of(alloc, [b"ik", b"x"], [b"i", b"abcdefgh"]),
+            Kind::TooManyColumns
+        )?
+    );
     Ok(())
 }
 
 #[test]
 fn aggs_have_the_named_keys(rt: HostRuntime) -> Result<(), Fail> {
     let alloc = rt.alloc();
-    let a = columns(alloc, b"ik", b"xv")?;
-    assert!(rt; gives(type_agg(alloc, &a, &names(alloc, b"ki")?), b"kixv")?);
-    assert!(rt; gives(type_agg(alloc, &a, &names(alloc, b"")?), b"xv")?);
-    assert!(rt; refuses(type_agg(alloc, &a, &names(alloc, b"ixi")?), Kind::NotAKey)?);
-    assert!(rt; refuses(type_agg(alloc, &a, &names(alloc, b"ii")?), Kind::NameTwice)?);
+    assert!(rt; gives(alloc, agg_of(alloc, [b"ik", b"xv"], b"ki"), "kixv")?);
+    assert!(rt; refuses(agg_of(alloc, [b"ik", b"xv"], b"ixi"), Kind::NotAKey)?);
+    assert!(rt; refuses(agg_of(alloc, [b"ik", b"xv"], b"ii"), Kind::NameTwice)?);
     Ok(())
 }

@@ -1,5 +1,0 @@
-use Rattle.std.proofs.Common.{length}
-use Rattle.lara.proofs.entries.+keys_from.Given as goal
-
-abbrev pub decreases-keys_from : goal.decreases-keys_from
-decreases-keys_from l = length l.cols.now

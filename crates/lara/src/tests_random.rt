@@ -1,0 +1,339 @@
+//! Random small tables: what the program prints of their joins, unions and aggs is the text of the plain operations'.
+ghost use Rattle.std.specs.Prelude.{◌≡◌, ◌<◌, ◌∷◌, [], true, IfOk};
+ghost use Rattle.lara_key.specs.declared.key.KeyType.TheVariants.{Nat};
+ghost use Rattle.lara_semiring.specs.Rows.{row_has};
+ghost use Rattle.lara_semiring.specs.declared.value.ValType.TheVariants.{Count};
+ghost use Rattle.lara_data.specs.KeyedTables.{all_have};
+
+use crate::Outcome;
+use crate::table_text::add_table_text;
+use crate::tests::{NONE, ran};
+use itoa::Buffer;
+use lara_assoc::{Assoc, agg, join, union};
+use lara_base::{Bytes, List, Name};
+use lara_data::{Entry, KeyCol, TableType, ValCol};
+use lara_key::{KeyType, KeyVal};
+use lara_semiring::{Row, ValType, Value};
+use std::alloc::{AllocError, Global};
+use std::test::Fail;
+
+// Numbers that look random and are the same in each run: a linear congruential generator, whose high bits are taken.
+#[derive(Drop)]
+struct Random {
+    state: u64,
+}
+
+impl Random {
+    fn below(&mut self, end: u64) -> u64
+        requires { 0 < end }
+        ensures { result < end }
+    {
+        self.state = self
+            .state
+            .wrapping_mul(6_364_136_223_846_793_005)
+            .wrapping_add(1_442_695_040_888_963_407);
+        (self.state >> 33) % end
+    }
+}
+
+// An entry of a table with two key columns and one value column.
+#[derive(Clone, Copy)]
+struct Cell {
+    first: u64,
+    second: u64,
+    value: u64,
+}
+
+// The entries of A over i and k, and of B over k and j.
+#[derive(Drop)]
+struct Pair {
+    a: List<Cell>,
+    b: List<Cell>,
+}
+
+// Up to six entries, with so few keys and so small values that keys repeat and products vanish.
+fn cells(alloc: Global, random: &mut Random) -> Result<List<Cell>, AllocError> {
+    let mut cells = List::new(alloc);
+    for _ in 0..random.below(7) {
+        cells.push(Cell {
+            first: random.below(4),
+            second: random.below(4),
+            value: random.below(6),
+        })?;
+    }
+    Ok(cells)
+}
+
+fn random_pair(alloc: Global, seed: u64) -> Result<Pair, AllocError> {
+    let mut random = Random { state: seed };
+    Ok(Pair {
+        a: cells(alloc, &mut random)?,
+        b: cells(alloc, &mut random)?,
+    })
+}
+
+fn add_number(text: &mut Bytes, n: u64) -> Result<(), AllocError> {
+    let mut buffer = Buffer::new();
+    text.extend_from_slice(buffer.format(n).as_bytes())
+}
+
+fn add_cell(text: &mut Bytes, cell: &Cell) -> Result<(), AllocError> {
+    text.extend_from_slice(b" ")?;
+    add_number(text, cell.first)?;
+    text.extend_from_slice(b",")?;
+    add_number(text, cell.second)?;
+    text.extend_from_slice(b":")?;
+    add_number(text, cell.value)?;
+    text.extend_from_slice(b";")
+}
+
+// Adds the statement that begins with these words and lists the entries.
+fn add_table(text: &mut Bytes, begin: &[u8], cells: &List<Cell>) -> Result<(), AllocError> {
+    text.extend_from_slice(begin)?;
+    for cell in cells.as_slice() {
+        add_cell(text, cell)?;
+    }
+    text.extend_from_slice(b" };\n")
+}
+
+// The script that makes A and B and ends with these statements.
+fn script(alloc: Global, pair: &Pair, end: &[u8]) -> Result<Bytes, AllocError> {
+    let mut text = List::new(alloc);
+    add_table(
+        &mut text,
+        b"A = table [i: nat, k: nat : v: count] {",
+        &pair.a,
+    )?;
+    add_table(
+        &mut text,
+        b"B = table [k: nat, j: nat : v: count] {",
+        &pair.b,
+    )?;
+    text.extend_from_slice(end)?;
+    Ok(text)
+}
+
+// Whether the program is done with the script and writes this text.
+fn prints(alloc: Global, script: &[u8], text: &[u8]) -> Result<bool, AllocError> {
+    let got = ran(alloc, &[b"run"], script, 4096, &NONE)?;
+    Ok(got.outcome == Outcome::Done && got.out.bytes().as_slice() == text)
+}
+
+// The name of one letter. In the contracts below 105 is i, 106 j, 107 k and 118 v.
+fn name(alloc: Global, letter: u8) -> Result<Name, AllocError>
+    ensures { IfOk result (λ n. n ≡ letter ∷ []) }
+{
+    match Name::new(List::from_slice(alloc, &[letter])?) {
+        Some(name) => Ok(name),
+        None => Err(AllocError),
+    }
+}
+
+fn names(alloc: Global, letters: &[u8]) -> Result<List<Name>, AllocError> {
+    let mut names = List::new(alloc);
+    for letter in letters {
+        names.push(name(alloc, *letter)?)?;
+    }
+    Ok(names)
+}
+
+fn name_k(alloc: Global) -> Result<List<Name>, AllocError>
+    ensures { IfOk result (λ ns. ns ≡ (107 ∷ []) ∷ []) }
+{
+    let mut names = List::new(alloc);
+    names.push(name(alloc, b'k')?)?;
+    Ok(names)
+}
+
+fn key_col(alloc: Global, letter: u8) -> Result<KeyCol, AllocError>
+    ensures { IfOk result (λ k. k ≡ record { name = letter ∷ []; ty = Nat }) }
+{
+    Ok(KeyCol {
+        name: name(alloc, letter)?,
+        ty: KeyType::Nat,
+    })
+}
+
+fn val_col(alloc: Global, letter: u8) -> Result<ValCol, AllocError>
+    ensures { IfOk result (λ v. v ≡ record { name = letter ∷ []; ty = Count }) }
+{
+    Ok(ValCol {
+        name: name(alloc, letter)?,
+        ty: ValType::Count,
+    })
+}
+
+// The type with these two key columns and the value column v.
+fn columns(alloc: Global, first: u8, second: u8) -> Result<TableType, AllocError>
+    ensures { IfOk result (λ t. t ≡ record { keys = record { name = first ∷ []; ty = Nat } ∷ record { name = second ∷ []; ty = Nat } ∷ []; vals = record { name = 118 ∷ []; ty = Count } ∷ [] }) }
+{
+    let mut keys = List::new(alloc);
+    keys.push(key_col(alloc, first)?)?;
+    keys.push(key_col(alloc, second)?)?;
+    let mut vals = List::new(alloc);
+    vals.push(val_col(alloc, b'v')?)?;
+    match TableType::new(keys, vals) {
+        Some(ty) => Ok(ty),
+        None => Err(AllocError),
+    }
+}
+
+#[tactic(auto, unfolding(lara_semiring::specs::Rows::row_has, lara_semiring::specs::Values::has_type))]
+fn row(alloc: Global, value: u64) -> Result<Row, AllocError>
+    ensures { IfOk result (λ r. row_has (Count ∷ []) r ≡ true) }
+{
+    let mut row = List::new(alloc);
+    row.push(Value::Count(value))?;
+    Ok(row)
+}
+
+fn entry(alloc: Global, cell: &Cell) -> Result<Entry, AllocError>
+    ensures { IfOk result (λ e. row_has (Count ∷ []) e.row ≡ true) }
+{
+    let mut key = List::new(alloc);
+    key.push(KeyVal::Nat(cell.first))?;
+    key.push(KeyVal::Nat(cell.second))?;
+    Ok(Entry {
+        key,
+        row: row(alloc, cell.value)?,
+    })
+}
+
+#[tactic(auto, using(lara_data::specs::KeyedTypes::all_have_steps))]
+fn entries(alloc: Global, cells: &List<Cell>) -> Result<List<Entry>, AllocError>
+    ensures { IfOk result (λ es. all_have (Count ∷ []) es ≡ true) }
+{
+    let mut entries = List::new(alloc);
+    for cell in cells.as_slice() {
+        entries.push(entry(alloc, cell)?)?;
+    }
+    Ok(entries)
+}
+
+#[tactic(auto, unfolding(lara_data::specs::Tables::table_of))]
+fn table(alloc: Global, first: u8, second: u8, cells: &List<Cell>) -> Result<Assoc, AllocError>
+    ensures { IfOk result (λ a. a.ty ≡ record { keys = record { name = first ∷ []; ty = Nat } ∷ record { name = second ∷ []; ty = Nat } ∷ []; vals = record { name = 118 ∷ []; ty = Count } ∷ [] }) }
+{
+    let ty = columns(alloc, first, second)?;
+    let entries = entries(alloc, cells)?;
+    Assoc::total(alloc, &ty, &entries)
+}
+
+fn joined(alloc: Global, pair: &Pair) -> Result<Assoc, AllocError> {
+    let a = table(alloc, b'i', b'k', &pair.a)?;
+    let b = table(alloc, b'k', b'j', &pair.b)?;
+    join(alloc, &a, &b)
+}
+
+fn united(alloc: Global, pair: &Pair) -> Result<Assoc, AllocError> {
+    let a = table(alloc, b'i', b'k', &pair.a)?;
+    let b = table(alloc, b'k', b'j', &pair.b)?;
+    union(alloc, &a, &b)
+}
+
+fn summed(alloc: Global, pair: &Pair) -> Result<Assoc, AllocError> {
+    let a = table(alloc, b'i', b'k', &pair.a)?;
+    let keys = name_k(alloc)?;
+    agg(alloc, &a, &keys)
+}
+
+// The text of the table under the name C, with its key columns in this order.
+fn text_of(alloc: Global, table: &Assoc, order: &[u8]) -> Result<Bytes, AllocError> {
+    let mut text = List::new(alloc);
+    add_table_text(
+        alloc,
+        &mut text,
+        &name(alloc, b'C')?,
+        &names(alloc, order)?,
+        table,
+    )?;
+    Ok(text)
+}
+
+// Whether the program printed the table's text, and whether the table has an entry.
+#[derive(Clone, Copy)]
+struct Compared {
+    same: bool,
+    has_entry: bool,
+}
+
+// Runs the script of the pair with these last statements, which are to print this table in this order.
+fn compare(
+    alloc: Global,
+    pair: &Pair,
+    end: &[u8],
+    table: &Assoc,
+    order: &[u8],
+) -> Result<Compared, AllocError> {
+    let script = script(alloc, pair, end)?;
+    let text = text_of(alloc, table, order)?;
+    let same = prints(alloc, script.as_slice(), text.as_slice())?;
+    let has_entry = !table.entries(alloc)?.is_empty();
+    Ok(Compared { same, has_entry })
+}
+
+fn compare_join(alloc: Global, round: u64) -> Result<Compared, AllocError> {
+    let pair = random_pair(alloc, round)?;
+    let table = joined(alloc, &pair)?;
+    let end = b"C = join A B;\nprint C by j, i, k;\n";
+    compare(alloc, &pair, end, &table, b"jik")
+}
+
+fn compare_union(alloc: Global, round: u64) -> Result<Compared, AllocError> {
+    let pair = random_pair(alloc, round)?;
+    let table = united(alloc, &pair)?;
+    let end = b"C = union A B;\nprint C by k;\n";
+    compare(alloc, &pair, end, &table, b"k")
+}
+
+fn compare_agg(alloc: Global, round: u64) -> Result<Compared, AllocError> {
+    let pair = random_pair(alloc, round)?;
+    let table = summed(alloc, &pair)?;
+    let end = b"C = agg A by k;\nprint C by k;\n";
+    compare(alloc, &pair, end, &table, b"k")
+}
+
+// The least of a test's hundred tables that are to have an entry, since empty ones would show little.
+const LEAST: u64 = 34;
+
+#[test]
+fn joins_print_as_plain_tables(rt: HostRuntime) -> Result<(), Fail> {
+    let mut full = 0u64;
+    for round in 0..100u64 {
+        let compared = compare_join(rt.alloc(), round)?;
+        assert!(rt; compared.same, "at {round}");
+        if compared.has_entry {
+            full += 1;
+        }
+    }
+    assert!(rt; full >= LEAST);
+    Ok(())
+}
+
+#[test]
+fn unions_print_as_plain_tables(rt: HostRuntime) -> Result<(), Fail> {
+    let mut full = 0u64;
+    for round in 100..200u64 {
+        let compared = compare_union(rt.alloc(), round)?;
+        assert!(rt; compared.same, "at {round}");
+        if compared.has_entry {
+            full += 1;
+        }
+    }
+    assert!(rt; full >= LEAST);
+    Ok(())
+}
+
+#[test]
+fn aggs_print_as_plain_tables(rt: HostRuntime) -> Result<(), Fail> {
+    let mut full = 0u64;
+    for round in 200..300u64 {
+        let compared = compare_agg(rt.alloc(), round)?;
+        assert!(rt; compared.same, "at {round}");
+        if compared.has_entry {
+            full += 1;
+        }
+    }
+    assert!(rt; full >= LEAST);
+    Ok(())
+}

@@ -1,0 +1,40 @@
+use Rattle.std.proofs.Common.{arith, ap}
+use Rattle.lara_syntax.specs.declared.ast.AstNode.{AstNode}
+use Rattle.lara_types.specs.Sizes.{written_nodes}
+use Rattle.lara_types.proofs.CheckEquations.{written_Join, written_Union, written_Agg}
+use Rattle.lara_types.proofs.trees.+node_of.Goals as goal
+
+pub node_of-requires : goal.node_of-requires
+node_of-requires t c =
+    let s = written_Join c.in-Join.a c.in-Join.b in
+    let e = ap written_nodes c.in-Join.is in
+    let r = ap (λ (n : AstNode). written_nodes n.op) c.get.ensures in
+    (omega (arith, s, e, r), tt)
+
+pub node_of-requires-in-Join : goal.node_of-requires-in-Join
+node_of-requires-in-Join t c =
+    let s = written_Join c.in-Join.a c.in-Join.b in
+    let e = ap written_nodes c.in-Join.is in
+    let r = ap (λ (n : AstNode). written_nodes n.op) c.get-in-Join.ensures in
+    (omega (arith, s, e, r), tt)
+
+pub node_of-requires-in-Union : goal.node_of-requires-in-Union
+node_of-requires-in-Union t c =
+    let s = written_Union c.in-Union.a c.in-Union.b in
+    let e = ap written_nodes c.in-Union.is in
+    let r = ap (λ (n : AstNode). written_nodes n.op) c.get-in-Union.ensures in
+    (omega (arith, s, e, r), tt)
+
+pub node_of-requires-in-Union-2 : goal.node_of-requires-in-Union-2
+node_of-requires-in-Union-2 t c =
+    let s = written_Union c.in-Union.a c.in-Union.b in
+    let e = ap written_nodes c.in-Union.is in
+    let r = ap (λ (n : AstNode). written_nodes n.op) c.get-in-Union-2.ensures in
+    (omega (arith, s, e, r), tt)
+
+pub node_of-requires-in-Agg : goal.node_of-requires-in-Agg
+node_of-requires-in-Agg t c =
+    let s = written_Agg c.in-Agg.a c.in-Agg.keys in
+    let e = ap written_nodes c.in-Agg.is in
+    let r = ap (λ (n : AstNode). written_nodes n.op) c.get-in-Agg.ensures in
+    (omega (arith, s, e, r), tt)

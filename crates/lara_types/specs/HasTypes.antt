@@ -1,0 +1,126 @@
+-- Which typed script a tree stands for, with no walk and no sequence of rules: each node has what is written, and its
+-- columns by the rules.
+use Rattle.std.specs.Prelude.{◌≡◌, ◌<◌, ◌-◌, ◌^◌, true, List, [], ◌∷◌, map, Option, Some, None, Ok}
+use Rattle.lara_key.specs.declared.key.KeyType.{KeyType}
+use Rattle.lara_key.specs.declared.key.KeyType.TheVariants as key_type
+use Rattle.lara_key.specs.declared.key.KeyVal.{KeyVal}
+use Rattle.lara_key.specs.declared.key.KeyVal.TheVariants as key
+use Rattle.lara_semiring.specs.declared.value.ValType.{ValType}
+use Rattle.lara_semiring.specs.declared.value.ValType.TheVariants as val_type
+use Rattle.lara_semiring.specs.declared.value.Value.{Value}
+use Rattle.lara_semiring.specs.declared.value.Value.TheVariants as value
+use Rattle.lara_data.specs.declared.node.Node.{Node}
+use Rattle.lara_data.specs.declared.node.Op.TheVariants as to
+use Rattle.lara_data.specs.declared.schema.Schema.{Schema}
+use Rattle.lara_data.specs.declared.script.Statement.{Statement}
+use Rattle.lara_data.specs.declared.script.Statement.TheVariants.{Assign, Print, Store}
+use Rattle.lara_data.specs.declared.table_type.KeyCol.{KeyCol}
+use Rattle.lara_data.specs.declared.table_type.ValCol.{ValCol}
+use Rattle.lara_data.specs.KeyedTables.{Row}
+use Rattle.lara_data.specs.Names.{Name, Tuple}
+use Rattle.lara_data.specs.Tables.{Entries}
+use Rattle.lara_data.specs.TableTypes.{Columns, key_names, are_columns}
+use Rattle.lara_data.specs.TypeRules.{join_type, union_type, agg_type}
+use Rattle.lara_data.specs.TypedScripts.{is_order, known_after}
+use Rattle.lara_data.specs.TypedTrees.{type_named}
+use Rattle.lara_syntax.specs.declared.ast.Ast.{Ast}
+use Rattle.lara_syntax.specs.declared.ast.AstBy.{AstBy}
+use Rattle.lara_syntax.specs.declared.ast.AstEntry.{AstEntry}
+use Rattle.lara_syntax.specs.declared.ast.AstLit.{AstLit}
+use Rattle.lara_syntax.specs.declared.ast.AstNode.{AstNode}
+use Rattle.lara_syntax.specs.declared.ast.AstOp.{AstOp}
+use Rattle.lara_syntax.specs.declared.ast.AstOp.TheBlock.{end_of-AstNode, more_of-AstNode}
+use Rattle.lara_syntax.specs.declared.ast.AstOp.TheVariants.{Load, Named, Literal, Join', Union', Agg', Map', Filter', Promote', Rename', Apply'}
+use Rattle.lara_syntax.specs.declared.ast.AstStatement.{AstStatement}
+use Rattle.lara_syntax.specs.declared.ast.AstStatement.TheVariants as ast
+use Rattle.lara_syntax.specs.declared.ast.AstType.{AstType}
+use Rattle.lara_syntax.specs.declared.ast.AstValue.{AstValue}
+use Rattle.lara_syntax.specs.declared.ast.AstValue.TheVariants.{Number}
+use Rattle.lara_types.specs.CheckedTrees.{plain}
+use Rattle.lara_types.specs.LiteralTypes.{key_col, val_col}
+
+-- ---- literals
+
+-- the literal is the key column's value: a number below 2 ^ 64 - 1 is a nat
+abbrev pub IsKey : KeyType → AstValue → KeyVal → Type 0
+IsKey key_type.Nat (Number n) k = (n < 2 ^ 64 - 1) × (k ≡ key.Nat n)
+IsKey key_type.Nat other k = ⊥
+
+-- the literal is the value column's value
+abbrev pub IsVal : ValType → AstValue → Value → Type 0
+IsVal val_type.Count (Number n) v = (n < 2 ^ 64 - 1) × (v ≡ value.Count n)
+IsVal val_type.Count other v = ⊥
+
+-- as many literals as key columns, and each is the value of its column
+unfoldable pub AreKeys : List KeyCol → List AstLit → Tuple → Type 0
+AreKeys [] [] [] = Unit {0}
+AreKeys (c ∷ cs) (l ∷ ls) (k ∷ ks) = IsKey c.ty l.value k × AreKeys cs ls ks
+AreKeys cs ls ks = ⊥
+
+unfoldable pub AreVals : List ValCol → List AstLit → Row → Type 0
+AreVals [] [] [] = Unit {0}
+AreVals (c ∷ cs) (l ∷ ls) (v ∷ vs) = IsVal c.ty l.value v × AreVals cs ls vs
+AreVals cs ls vs = ⊥
+
+-- the written entries are these
+unfoldable pub AreEntries : Columns → List AstEntry → Entries → Type 0
+AreEntries ty [] [] = Unit {0}
+AreEntries ty (x ∷ xs) (e ∷ es) = AreKeys ty.keys x.key e.key × AreVals ty.vals x.row e.row × AreEntries ty xs es
+AreEntries ty xs es = ⊥
+
+-- the columns without places
+abbrev pub columns : AstType → Columns
+columns ty = record { keys = map key_col ty.keys; vals = map val_col ty.vals }
+
+-- the literal has the columns that are written, which are a table's, and the entries
+pub record LiteralHas (ty : AstType) (xs : List AstEntry) (node : Node) : Type 0 where
+  pub entries : Entries
+  pub op : node.op ≡ to.Literal entries
+  pub columns_are : node.ty ≡ columns ty
+  pub of_table : are_columns node.ty.keys node.ty.vals ≡ true
+  pub are_entries : AreEntries node.ty xs entries
+
+-- ---- trees
+
+-- The tree stands for the typed tree, where the first list has the stored names and the second one those that were
+-- assigned. What has no words in the grammar yet stands for none.
+unfoldable pub OpHas : List Schema → List Schema → AstOp → Node → Type 0
+OpHas stored known (Load n) node = (node.op ≡ to.Load n.name) × (type_named n.name stored ≡ Some node.ty)
+OpHas stored known (Named n) node = (node.op ≡ to.Named n.name) × (type_named n.name known ≡ Some node.ty)
+OpHas stored known (Literal ty es) node = LiteralHas ty es node
+OpHas stored known (Join' _ (more_of-AstNode i a end_of-AstNode) _ (more_of-AstNode j b end_of-AstNode)) node =
+    (x : Node) × (y : Node) × (node.op ≡ to.Join x y) × (join_type x.ty y.ty ≡ Ok node.ty) × OpHas stored known a x × OpHas stored known b y
+OpHas stored known (Union' _ (more_of-AstNode i a end_of-AstNode) _ (more_of-AstNode j b end_of-AstNode)) node =
+    (x : Node) × (y : Node) × (node.op ≡ to.Union x y) × (union_type x.ty y.ty ≡ Ok node.ty) × OpHas stored known a x × OpHas stored known b y
+OpHas stored known (Agg' _ (more_of-AstNode i a end_of-AstNode) ks) node =
+    (x : Node) × (node.op ≡ to.Agg x (plain ks)) × (agg_type x.ty (plain ks) ≡ Ok node.ty) × OpHas stored known a x
+OpHas stored known (Map' _ (more_of-AstNode i a end_of-AstNode) defs) node = ⊥
+OpHas stored known (Filter' _ (more_of-AstNode i a end_of-AstNode) test) node = ⊥
+OpHas stored known (Promote' _ (more_of-AstNode i a end_of-AstNode) def) node = ⊥
+OpHas stored known (Rename' _ (more_of-AstNode i a end_of-AstNode) pairs) node = ⊥
+OpHas stored known (Apply' _ (more_of-AstNode i a end_of-AstNode) call) node = ⊥
+
+abbrev pub NodeHas : List Schema → List Schema → AstNode → Node → Type 0
+NodeHas stored known tree node = OpHas stored known tree.op node
+
+-- ---- scripts
+
+-- the order that is written: each key column once; without `by` the declared one
+abbrev pub IsOrder : Columns → Option AstBy → List Name → Type 0
+IsOrder ty None order = order ≡ key_names ty.keys
+IsOrder ty (Some by) order = (order ≡ plain by.names) × (is_order order (key_names ty.keys) ≡ true)
+
+abbrev pub StatementHas : List Schema → List Schema → AstStatement → Statement → Type 0
+StatementHas stored known (ast.Assign at name tree) s = (node : Node) × (s ≡ Assign name.name node) × NodeHas stored known tree node
+StatementHas stored known (ast.Print at name by) s = (ty : Columns) × (order : List Name) × (s ≡ Print name.name order) × (type_named name.name known ≡ Some ty) × IsOrder ty by order
+StatementHas stored known (ast.Store at old new) s = (ty : Columns) × (s ≡ Store old.name new.name) × (type_named old.name known ≡ Some ty)
+
+-- each statement, where the names of those before it are known
+unfoldable pub AllHave : List Schema → List Schema → List AstStatement → List Statement → Type 0
+AllHave stored known [] [] = Unit {0}
+AllHave stored known (x ∷ xs) (s ∷ ss) = StatementHas stored known x s × AllHave stored (known_after known s) xs ss
+AllHave stored known xs ss = ⊥
+
+-- the tree of a script stands for the typed script, over the stored names
+abbrev pub HasTypes : List Schema → Ast → List Statement → Type 0
+HasTypes stored tree ss = AllHave stored [] tree.statements ss

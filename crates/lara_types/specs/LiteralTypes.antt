@@ -1,0 +1,54 @@
+-- The columns of a literal, and the first refusal of those that are no type.
+use Rattle.std.specs.Prelude.{ℕ, if◌then◌else◌, List, [], ◌∷◌, ◌++◌, map, Option, Some, None, Ok}
+use Rattle.lara_data.specs.declared.refusal.Kind.TheVariants.{NameTwice, TooManyColumns}
+use Rattle.lara_syntax.specs.declared.ast.AstName.{AstName}
+use Rattle.lara_syntax.specs.declared.ast.AstType.{AstType}
+use Rattle.lara_syntax.specs.declared.ast.AstKeyCol.{AstKeyCol}
+use Rattle.lara_syntax.specs.declared.ast.AstValCol.{AstValCol}
+use Rattle.lara_data.specs.declared.table_type.KeyCol.{KeyCol}
+use Rattle.lara_data.specs.declared.table_type.ValCol.{ValCol}
+use Rattle.lara_data.specs.TableTypes.{Columns, typed_columns}
+use Rattle.lara_data.specs.Names.{has}
+use Rattle.lara_types.specs.Steps.{◌>>=◌, walk}
+use Rattle.lara_types.specs.Judgements.{Judged, refused}
+
+-- one name more, which has not stood before
+abbrev pub one_more_name : List (List ℕ) → AstName → Judged (List (List ℕ))
+one_more_name names n = if has names n.name then refused n.at NameTwice else Ok (names ++ n.name ∷ [])
+
+-- the name of a column
+abbrev pub key_col_name : AstKeyCol → List ℕ
+key_col_name c = c.name.name
+
+abbrev pub val_col_name : AstValCol → List ℕ
+val_col_name c = c.name.name
+
+abbrev pub one_more_key : List (List ℕ) → AstKeyCol → Judged (List (List ℕ))
+one_more_key names c = one_more_name names c.name
+
+abbrev pub one_more_val : List (List ℕ) → AstValCol → Judged (List (List ℕ))
+one_more_val names c = one_more_name names c.name
+
+-- the names of all columns, keys first, which differ
+unfoldable pub distinct_names : List AstKeyCol → List AstValCol → Judged (List (List ℕ))
+distinct_names keys vals = do
+  names ← walk one_more_key [] keys
+  walk one_more_val names vals
+
+-- the columns without places
+abbrev pub key_col : AstKeyCol → KeyCol
+key_col c = record { name = c.name.name; ty = c.ty }
+
+abbrev pub val_col : AstValCol → ValCol
+val_col c = record { name = c.name.name; ty = c.ty }
+
+abbrev pub few_enough : ℕ → Option Columns → Judged Columns
+few_enough at None = refused at TooManyColumns
+few_enough at (Some ty) = Ok ty
+
+-- The type of a literal whose first word is at this place. Names that differ, and a value column as the grammar has it,
+-- are no type only where they are too many.
+unfoldable pub literal_type : ℕ → AstType → Judged Columns
+literal_type at ty = do
+  names ← distinct_names ty.keys ty.vals
+  few_enough at (typed_columns (map key_col ty.keys) (map val_col ty.vals))
