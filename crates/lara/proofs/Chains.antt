@@ -1,11 +1,10 @@
 -- Steps in a row.
-use Rattle.std.proofs.Common.{inl, inr, refl, sym}
 use Rattle.std.specs.Prelude.{◌≡◌, ℕ, Result, Ok, Err}
 use Rattle.lara.specs.declared.outcome.Outcome.{Outcome}
 use Rattle.lara.specs.declared.outcome.Outcome.TheVariants.{Done, Usage, Script, Triples, Choice, Range, Damaged, DepotFault, SourceFault, SinkFault, Full, Memory}
 use Rattle.lara.specs.Stops.{Stop, Reaches}
 use Rattle.lara_types.specs.Steps.{◌>>=◌}
-use Rattle.lara.specs.Endings.{Device, no_fault, causes, StopsWith, Stopped, Gives, UsageExactly}
+use Rattle.lara.specs.Endings.{Device, no_fault, causes, StopsWith, Stopped, Gives}
 
 -- a stop of a step is a stop of what begins with it
 pub stops_then : {A B : Type 0} (r : Result A Stop) (f : A → Result B Stop) (o : Outcome) → StopsWith r o → StopsWith (r >>= f) o
@@ -26,27 +25,6 @@ stopped_then rose r f SourceFault s = absurd s.0
 stopped_then rose r f SinkFault s = absurd s.0
 stopped_then rose r f (Full what) s = stops_then r f (Full what) s
 stopped_then rose r f Memory s = s
-
--- a refusal of the first step says nothing of Usage but what the rules say
-usage_stopped : {A : Type 0} (r : Result A Stop) (o : Outcome) → StopsWith r o → UsageExactly r o
-usage_stopped (Ok x) o s = absurd s
-usage_stopped (Err e) o s = inl (sym s)
-
--- what the reader of the words says of Usage
-pub usage_from : {A : Type 0} (r : Result A Stop) (o : Outcome) → Stopped no_fault r o → UsageExactly r o
-usage_from r Done s = absurd s
-usage_from r (Usage at) s = usage_stopped r (Usage at) s
-usage_from r (Script at kind) s = usage_stopped r (Script at kind) s
-usage_from r (Triples row kind) s = usage_stopped r (Triples row kind) s
-usage_from r (Choice index) s = usage_stopped r (Choice index) s
-usage_from r (Range n) s = usage_stopped r (Range n) s
-usage_from r (Damaged file at) s = usage_stopped r (Damaged file at) s
-usage_from r DepotFault s = absurd s.0
-usage_from r SourceFault s = absurd s.0
-usage_from r SinkFault s = absurd s.0
-usage_from r (Full what) s = usage_stopped r (Full what) s
-usage_from (Ok x) Memory s = λ u. u
-usage_from (Err e) Memory s = inr refl
 
 -- a stop that needs no device is one with any
 stopped_any : {A : Type 0} (rose : Device → Type 0) (r : Result A Stop) (o : Outcome) → Stopped no_fault r o → Stopped rose r o

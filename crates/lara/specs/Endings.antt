@@ -86,10 +86,10 @@ IsUsage SinkFault = ⊥
 IsUsage (Full what) = ⊥
 IsUsage Memory = ⊥
 
--- Usage comes where the words stop the run, or memory ran out, and nowhere else.
+-- Usage comes exactly where the words stop the run: to read them takes no memory.
 abbrev pub UsageExactly : {A : Type 0} → Result A Stop → Outcome → Type 0
 UsageExactly (Ok x) outcome = ¬ (IsUsage outcome)
-UsageExactly (Err e) outcome = (outcome ≡ e.outcome) ⊎ (outcome ≡ Memory)
+UsageExactly (Err e) outcome = outcome ≡ e.outcome
 
 -- a fact for each ending but Done and SinkFault, which alone come after the writing began
 abbrev pub Quiet : Type 0 → Outcome → Type 0

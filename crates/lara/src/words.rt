@@ -1,7 +1,7 @@
 //! The words of a call: which command they are.
-ghost use Rattle.std.specs.Prelude.{◌≡◌};
+ghost use Rattle.std.specs.Prelude.{◌≡◌, IfErr};
 ghost use Rattle.lara.specs.Words.{command_of, name_of};
-ghost use Rattle.lara.specs.Endings.{Gives, no_fault};
+ghost use Rattle.lara.specs.Endings.{Gives, IsUsage, no_fault};
 
 use crate::outcome::Outcome;
 use lara_base::{List, Word};
@@ -15,7 +15,8 @@ pub enum Command {
 
 // The command of this name.
 fn named(word: &[u8]) -> Result<Command, Outcome>
-    ensures { Gives (λ c. c) no_fault (name_of word.now) result }
+    ensures gives { Gives (λ c. c) no_fault (name_of word.now) result }
+    ensures sure { IfErr result IsUsage }
 {
     if word == b"run".as_slice() {
         Ok(Command::Run)
@@ -24,9 +25,10 @@ fn named(word: &[u8]) -> Result<Command, Outcome>
     }
 }
 
-/// The command that the words are.
+/// The command that the words are. This takes no memory, and has no other error than Usage.
 pub fn read_command(words: &List<Word>) -> Result<Command, Outcome>
-    ensures { Gives (λ c. c) no_fault (command_of words.now) result }
+    ensures gives { Gives (λ c. c) no_fault (command_of words.now) result }
+    ensures sure { IfErr result IsUsage }
 {
     match words.as_slice() {
         [] => Err(Outcome::Usage { at: 0 }),
