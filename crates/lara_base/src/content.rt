@@ -1,5 +1,6 @@
 //! Short texts.
-ghost use Rattle.std.specs.Prelude.{◌≡◌, ◌≤◌, ◌<◌, length, IfOk, MatchOption};
+ghost use Rattle.std.specs.Prelude.{◌≡◌, ◌≤◌, ◌<◌, length, IsOk, IfOk, MatchOption};
+ghost use Rattle.lara_base.specs.declared.content.Text.TheVariants.{Over};
 
 use crate::copied::Copied;
 use crate::list::Bytes;
@@ -58,7 +59,10 @@ pub enum Text {
 }
 
 impl Copied for Text {
-    fn copy(&self, alloc: Global) -> Result<Self, AllocError> {
+    fn copy(&self, alloc: Global) -> Result<Self, AllocError>
+        ensures same { IfOk result (λ r. r ≡ self.now) }
+        ensures over { self.now ≡ Over → IsOk result }
+    {
         match self {
             Text::Within(c) => Ok(Text::Within(c.copy(alloc)?)),
             Text::Over => Ok(Text::Over),

@@ -11,8 +11,10 @@ mod list_traits;
 mod mem_sink;
 mod mem_source;
 mod name;
+mod read_source;
 mod standard;
 mod streams;
+mod write_sink;
 
 pub use content::{Content, Text};
 pub use copied::Copied;
@@ -21,9 +23,11 @@ pub use list::{Bytes, List, Word};
 pub use mem_sink::MemSink;
 pub use mem_source::MemSource;
 pub use name::Name;
+pub use read_source::ReadSource;
 pub use sqlite_items::Boxed;
 pub use standard::{StderrSink, StdinSource, StdoutSink};
 pub use streams::{Failed, Sink, Source};
+pub use write_sink::WriteSink;
 
 #[cfg(test)]
 mod tests;

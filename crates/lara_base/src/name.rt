@@ -31,7 +31,7 @@ impl Model for Name {
 }
 
 /// The words of the language that are no names.
-pub const KEYWORDS: [&[u8]; 39] = [
+const KEYWORDS: [&[u8]; 39] = [
     b"agg", b"and", b"apply", b"as", b"by", b"count", b"dist", b"else", b"false", b"filter",
     b"flag", b"if", b"inf", b"join", b"last", b"len", b"load", b"map", b"maxmin", b"minplus",
     b"nat", b"none", b"not", b"num", b"or", b"path", b"print", b"promote", b"rename", b"repeat",

@@ -1,9 +1,12 @@
 //! What no clause says: that calls find memory, the real streams, and pieces through the forms in memory.
 use crate::{
-    Bytes, Content, Copied, Failed, FileName, List, MemSink, MemSource, Name, Sink, Source,
-    StderrSink, StdinSource, StdoutSink, Text,
+    Bytes, Content, Copied, Failed, FileName, List, MemSink, MemSource, Name, ReadSource, Sink,
+    Source, StderrSink, StdinSource, StdoutSink, Text, WriteSink,
 };
 use std::alloc::{AllocError, Global};
+use std::cmp::Ordering;
+use std::collections::VecDeque;
+use std::hash::{DefaultHasher, Hash, Hasher};
 use std::test::Fail;
 
 // Each impl is called through its bound.
@@ -17,6 +20,20 @@ fn read_by<S: Source>(source: &mut S, buf: &mut [u8]) -> Result<usize, Failed> {
 
 fn write_by<O: Sink>(sink: &mut O, piece: &[u8]) -> Result<usize, Failed> {
     sink.write(piece)
+}
+
+fn equal<T: Eq>(a: &T, b: &T) -> bool {
+    a == b
+}
+
+fn order_of<T: Ord>(a: &T, b: &T) -> Ordering {
+    a.cmp(b)
+}
+
+fn hash_of<T: Hash>(value: &T) -> u64 {
+    let mut hasher = DefaultHasher::new();
+    value.hash(&mut hasher);
+    hasher.finish()
 }
 
 fn bytes_of(alloc: Global, bytes: &[u8]) -> Result<Bytes, AllocError> {
@@ -66,6 +83,18 @@ fn copies_are_equal(rt: HostRuntime) -> Result<(), Fail> {
 }
 
 #[test]
+fn copies_of_nothing(rt: HostRuntime) -> Result<(), Fail> {
+    let alloc = rt.alloc();
+    let none: Option<Name> = None;
+    assert!(rt; copy_of(alloc, &none)?.is_none());
+    let empty: List<Name> = List::new(alloc);
+    assert!(rt; copy_of(alloc, &empty)?.is_empty());
+    assert_eq!(rt; copy_of(alloc, &FileName::Catalog)?, FileName::Catalog);
+    assert!(rt; matches!(&copy_of(alloc, &Text::Over)?, Text::Over));
+    Ok(())
+}
+
+#[test]
 fn names_by_the_rule(rt: HostRuntime) {
     for (bytes, want) in [
         (b"a".as_slice(), true),
@@ -90,8 +119,22 @@ fn lists_compare_by_items(rt: HostRuntime) -> Result<(), Fail> {
     let b = bytes_of(alloc, b"abc")?;
     let c = bytes_of(alloc, b"b")?;
     assert!(rt; a < b);
-    assert!(rt; b < c);
-    assert!(rt; a == bytes_of(alloc, b"ab")?);
+    assert_eq!(rt; order_of(&b, &c), Ordering::Less);
+    assert_eq!(rt; order_of(&c, &b), Ordering::Greater);
+    assert!(rt; equal(&a, &bytes_of(alloc, b"ab")?));
+    assert!(rt; !equal(&a, &b));
+    Ok(())
+}
+
+#[test]
+fn equal_names_have_equal_hashes(rt: HostRuntime) -> Result<(), Fail> {
+    let alloc = rt.alloc();
+    let name = Name::new(bytes_of(alloc, b"n")?).ok_or("a name")?;
+    let same = Name::new(bytes_of(alloc, b"n")?).ok_or("a name")?;
+    let other = Name::new(bytes_of(alloc, b"m")?).ok_or("a name")?;
+    assert!(rt; equal(&name, &same));
+    assert!(rt; !equal(&name, &other));
+    assert_eq!(rt; hash_of(&name), hash_of(&same));
     Ok(())
 }
 
@@ -114,6 +157,22 @@ fn pieces_through_memory(rt: HostRuntime) -> Result<(), Fail> {
     assert_eq!(rt; write_by(&mut sink, b"by"), Err(Failed));
     assert_eq!(rt; write_by(&mut sink, b" by"), Ok(3));
     assert_eq!(rt; sink.bytes().as_slice(), b"some by".as_slice());
+    Ok(())
+}
+
+#[test]
+fn readers_and_writers_of_std(rt: HostRuntime) -> Result<(), Fail> {
+    let alloc = rt.alloc();
+    let mut sink = WriteSink::new(VecDeque::new(alloc));
+    assert_eq!(rt; write_by(&mut sink, b"abc"), Ok(3));
+    assert_eq!(rt; write_by(&mut sink, b""), Ok(0));
+    let mut source = ReadSource::new(b"abc".as_slice());
+    let mut buf = [0; 2];
+    assert_eq!(rt; read_by(&mut source, &mut buf), Ok(2));
+    assert_eq!(rt; buf, *b"ab");
+    assert_eq!(rt; read_by(&mut source, &mut buf), Ok(1));
+    assert_eq!(rt; buf, *b"cb");
+    assert_eq!(rt; read_by(&mut source, &mut buf), Ok(0));
     Ok(())
 }
 
