@@ -15,7 +15,7 @@ use Rattle.lara_key.specs.declared.key.KeyType.TheVariants as ty
 use Rattle.lara_key.specs.declared.key.KeyVal.{KeyVal}
 use Rattle.lara_key.specs.declared.key.KeyVal.TheVariants as key
 
--- the greatest word, which of a `nat` is `over`
+-- the greatest `nat`, which stands for all beyond the range
 abbrev pub top : ℕ
 top = 2 ^ 64 - 1
 

@@ -1,5 +1,5 @@
 //! Key columns and tuples of them.
-ghost use Rattle.std.specs.Prelude.{◌≡◌, IfOk};
+ghost use Rattle.std.specs.Prelude.{◌≡◌, IfOk, IsOk};
 
 use lara_base::{Copied, List};
 use std::alloc::{AllocError, Global};
@@ -20,15 +20,35 @@ pub enum KeyVal {
 pub type Tuple = List<KeyVal>;
 
 impl Copied for KeyType {
-    fn copy(&self, _alloc: Global) -> Result<KeyType, AllocError> {
+    fn copy(&self, _alloc: Global) -> Result<KeyType, AllocError>
+        ensures same { IfOk result (λ r. r ≡ self.now) }
+        ensures exact { IsOk result }
+    {
         Ok(*self)
     }
 }
 
 impl Copied for KeyVal {
-    fn copy(&self, _alloc: Global) -> Result<KeyVal, AllocError> {
+    fn copy(&self, _alloc: Global) -> Result<KeyVal, AllocError>
+        ensures same { IfOk result (λ r. r ≡ self.now) }
+        ensures exact { IsOk result }
+    {
         match self {
             KeyVal::Nat(n) => Ok(KeyVal::Nat(*n)),
+        }
+    }
+}
+
+impl KeyVal {
+    ghost use Rattle.lara_key.specs.Keys.{key_is_over};
+
+    /// Whether the column stands for all that are beyond the range of its type.
+    #[tactic(auto, unfolding(crate::specs::Keys::key_is_over))]
+    pub fn is_over(&self) -> bool
+        ensures { result ≡ key_is_over self.now }
+    {
+        match self {
+            KeyVal::Nat(n) => *n == u64::MAX,
         }
     }
 }

@@ -14,6 +14,10 @@ fn tuple(alloc: Global, numbers: &[u64]) -> Result<Tuple, AllocError> {
     Ok(key)
 }
 
+fn copy_of<T: Copied>(alloc: Global, value: &T) -> Result<T, AllocError> {
+    value.copy(alloc)
+}
+
 #[test]
 fn keys_compare_column_by_column(rt: HostRuntime) -> Result<(), Fail> {
     let alloc = rt.alloc();
@@ -35,7 +39,7 @@ fn keys_compare_column_by_column(rt: HostRuntime) -> Result<(), Fail> {
                 "at {i} and {j}"
             );
             assert_eq!(rt;
-                rising[i] == rising[j].copy(alloc)?,
+                rising[i] == copy_of(alloc, &rising[j])?,
                 i == j,
                 "at {i} and {j}"
             );
@@ -54,10 +58,17 @@ fn maps_take_keys_in_their_order(rt: HostRuntime) -> Result<(), Fail> {
     for (i, (_, place)) in map.iter().enumerate() {
         assert_eq!(rt; *place, i);
     }
-    assert_eq!(rt; KeyType::Nat.copy(alloc)?, KeyType::Nat);
+    assert_eq!(rt; copy_of(alloc, &KeyType::Nat)?, KeyType::Nat);
+    assert!(rt; copy_of(alloc, &KeyVal::Nat(4))? == KeyVal::Nat(4));
     assert_eq!(rt;
-        KeyVal::Nat(4).partial_cmp(&KeyVal::Nat(5)),
+        tuple(alloc, &[4])?.partial_cmp(&tuple(alloc, &[5])?),
         Some(Ordering::Less)
     );
     Ok(())
+}
+
+#[test]
+fn the_greatest_number_is_over(rt: HostRuntime) {
+    assert!(rt; KeyVal::Nat(u64::MAX).is_over());
+    assert!(rt; !KeyVal::Nat(u64::MAX - 1).is_over());
 }

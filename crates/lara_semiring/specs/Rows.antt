@@ -3,7 +3,7 @@
 -- laws hold for all rows, and those of the types are read as they are.
 use Rattle.std.specs.Prelude.{◌≡◌, ◌↔◌, ℕ, Bool, true, false, ◌&&◌, ◌||◌, List, [], ◌∷◌, ◌++◌, length, take, ◌<◌, ◌≤◌, ◌+◌}
 use Rattle.std.proofs.Common.{refl, sym, ap, ◌∙◌, arith, zero, suc, get_or, add-one}
-use Rattle.std.proofs.Math.Bool.{and-false, or-true}
+use Rattle.std.proofs.Math.Bool.{and_assoc, and-false, or-true}
 use Rattle.std.proofs.lemmas.Bool.{and_parts, and_from}
 use Rattle.std.proofs.lemmas.List.{take_all}
 use Rattle.lara_semiring.specs.declared.value.ValType.{ValType}
@@ -65,10 +65,6 @@ unfolding row_plus row_zero
 row_zero_plus [] a b = refl
 row_zero_plus (t ∷ ts) a b = joined _ _ _ _ (value_zero_plus t (first t a) (first t b)) (row_zero_plus ts (rest a) (rest b))
 
-and_assoc : (p q r : Bool) → (p && (q && r)) ≡ ((p && q) && r)
-and_assoc true q r = refl
-and_assoc false q r = refl
-
 pub row_plus_zero : (ts : List ValType) (a : List Value) → row_has ts a ≡ true → row_plus ts (row_zero ts) a ≡ a
 unfolding row_plus row_zero row_has
 row_plus_zero [] [] h = refl
@@ -101,6 +97,10 @@ row_zero_from_is_zero [] a h = refl
 row_zero_from_is_zero (t ∷ ts) a h =
     joined _ _ _ _ (value_zero_from_is_zero t (first t a) ((and_parts (value_is_zero t (first t a)) (row_is_zero ts (rest a)) h).0))
     (row_zero_from_is_zero ts (rest a) ((and_parts (value_is_zero t (first t a)) (row_is_zero ts (rest a)) h).1))
+
+-- the default row is its own sum
+pub row_zero_twice : (ts : List ValType) → row_plus ts (row_zero ts) (row_zero ts) ≡ row_zero ts
+row_zero_twice ts = row_plus_zero ts (row_zero ts) (row_zero_has ts)
 
 -- only the default row has zero in every column
 pub row_zero_only : (ts : List ValType) (a : List Value) → row_has ts a ≡ true → row_is_zero ts a ≡ true → a ≡ row_zero ts
@@ -166,7 +166,7 @@ unfolding row_is_zero
 row_is_zero_more [] a i d x l m = absurd (omega arith)
 row_is_zero_more (t ∷ ts) [] i d x l m = absurd (omega arith)
 row_is_zero_more (t ∷ ts) (v ∷ a) zero d x l m = grind arith
-row_is_zero_more (t ∷ ts) (v ∷ a) (suc i) d x l m = rw (row_is_zero_more ts a i d x (omega arith) (omega arith)) (and_assoc (value_is_zero t v) _ _)
+row_is_zero_more (t ∷ ts) (v ∷ a) (suc i) d x l m = rw (row_is_zero_more ts a i d x (omega arith) (omega arith)) (sym (and_assoc (value_is_zero t v) _ _))
 
 -- a column that is not zero settles the whole row
 pub row_is_zero_stuck : (ts : List ValType) (a : List Value) (i : ℕ) (d : ValType) (x : Value) → i < length ts → i < length a → value_is_zero (get_or ts i d) (get_or a i x) ≡ false → row_is_zero ts a ≡ false

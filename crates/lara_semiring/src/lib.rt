@@ -9,7 +9,7 @@ mod value;
 pub use count::CountVal;
 pub use row::{is_default, row_plus, row_times};
 pub use semiring::Semiring;
-pub use value::{Row, ValType, Value, plus, times};
+pub use value::{Row, ValType, Value, is_over, plus, times, zero};
 
 #[cfg(test)]
 mod tests;

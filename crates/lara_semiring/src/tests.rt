@@ -4,7 +4,8 @@ ghost use Rattle.lara_semiring.specs.Rows.{row_has};
 ghost use Rattle.lara_semiring.specs.declared.value.ValType.TheVariants.{Count};
 
 use crate::{
-    CountVal, Row, Semiring, ValType, Value, is_default, plus, row_plus, row_times, times,
+    CountVal, Row, Semiring, ValType, Value, is_default, is_over, plus, row_plus, row_times, times,
+    zero,
 };
 use lara_base::{Copied, List};
 use std::alloc::{AllocError, Global};
@@ -32,6 +33,20 @@ fn number(value: &Value) -> u64 {
     match value {
         Value::Count(n) => *n,
     }
+}
+
+fn copy_of<T: Copied>(alloc: Global, value: &T) -> Result<T, AllocError> {
+    value.copy(alloc)
+}
+
+/// The identity of the sum and that of the product.
+fn identities<T: Semiring>(alloc: Global) -> (T, T) {
+    (T::zero(alloc), T::one(alloc))
+}
+
+/// Whether the value is zero, and whether it is over.
+fn zero_or_over<T: Semiring>(value: &T) -> (bool, bool) {
+    (value.is_zero(), value.is_over())
 }
 
 /// The sum in the other order, which is the same by the laws.
@@ -71,10 +86,13 @@ fn counts_add_up_to_over(rt: HostRuntime) -> Result<(), Fail> {
         assert_eq!(rt; number(&sum), want, "at {a} and {b}");
         let sum = turned(alloc, &CountVal { number: a }, &CountVal { number: b })?;
         assert_eq!(rt; sum.number, want, "at {a} and {b}");
-        assert_eq!(rt; sum.is_zero(), want == 0, "at {a} and {b}");
-        assert_eq!(rt; sum.is_over(), want == OVER, "at {a} and {b}");
+        let (is_zero, is_over) = zero_or_over(&sum);
+        assert_eq!(rt; is_zero, want == 0, "at {a} and {b}");
+        assert_eq!(rt; is_over, want == OVER, "at {a} and {b}");
     }
-    assert_eq!(rt; CountVal::zero(alloc).number, 0);
+    let (zero, one) = identities::<CountVal>(alloc);
+    assert_eq!(rt; zero.number, 0);
+    assert_eq!(rt; one.number, 1);
     Ok(())
 }
 
@@ -101,7 +119,6 @@ fn counts_multiply_up_to_over(rt: HostRuntime) -> Result<(), Fail> {
         &CountVal { number: 5 },
     )?;
     assert_eq!(rt; spread.number, 27);
-    assert_eq!(rt; CountVal::one(alloc).number, 1);
     Ok(())
 }
 
@@ -123,14 +140,24 @@ fn rows_add_in_each_column(rt: HostRuntime) -> Result<(), Fail> {
     let alloc = rt.alloc();
     let tys = two_counts(alloc)?;
     let sum = row_plus(alloc, &tys, &pair(alloc, 1, OVER)?, &pair(alloc, 20, 300)?)?;
-    let copy = sum.copy(alloc)?;
+    let copy = copy_of(alloc, &sum)?;
     assert_eq!(rt; copy.len(), 2);
     assert_eq!(rt; number(&copy[0]), 21);
     assert_eq!(rt; number(&copy[1]), OVER);
     assert!(rt; is_default(&tys, &pair(alloc, 0, 0)?));
     assert!(rt; !is_default(&tys, &pair(alloc, 0, 1)?));
     assert!(rt; !is_default(&tys, &pair(alloc, 1, 0)?));
-    let copy = tys.copy(alloc)?;
+    let copy = copy_of(alloc, &tys)?;
     assert_eq!(rt; copy.len(), 2);
+    assert_eq!(rt; copy_of(alloc, &copy[1])?, ValType::Count);
+    assert_eq!(rt; number(&copy_of(alloc, &Value::Count(OVER))?), OVER);
     Ok(())
+}
+
+#[test]
+#[tactic(auto, unfolding(crate::specs::Values::has_type))]
+fn values_of_a_type(rt: HostRuntime) {
+    assert_eq!(rt; number(&zero(&ValType::Count)), 0);
+    assert!(rt; is_over(&ValType::Count, &Value::Count(OVER)));
+    assert!(rt; !is_over(&ValType::Count, &Value::Count(OVER - 1)));
 }

@@ -1,6 +1,6 @@
 //! Values of any type, and rows of them.
 ghost use Rattle.std.specs.Prelude.{◌≡◌, true, false, IfOk, IsOk};
-ghost use Rattle.lara_semiring.specs.Values.{has_type, has_texts, value_plus, value_times, value_is_zero};
+ghost use Rattle.lara_semiring.specs.Values.{has_type, has_texts, value_zero, value_plus, value_times, value_is_zero, value_is_over};
 
 use lara_base::{Copied, List};
 use std::alloc::{AllocError, Global};
@@ -21,16 +21,32 @@ pub enum Value {
 pub type Row = List<Value>;
 
 impl Copied for ValType {
-    fn copy(&self, _alloc: Global) -> Result<ValType, AllocError> {
+    fn copy(&self, _alloc: Global) -> Result<ValType, AllocError>
+        ensures same { IfOk result (λ r. r ≡ self.now) }
+        ensures exact { IsOk result }
+    {
         Ok(*self)
     }
 }
 
 impl Copied for Value {
-    fn copy(&self, _alloc: Global) -> Result<Value, AllocError> {
+    fn copy(&self, _alloc: Global) -> Result<Value, AllocError>
+        ensures same { IfOk result (λ r. r ≡ self.now) }
+        ensures exact { IsOk result }
+    {
         match self {
             Value::Count(n) => Ok(Value::Count(*n)),
         }
+    }
+}
+
+/// The value that adds nothing, which no table keeps.
+#[tactic(auto, unfolding(crate::specs::Values::value_zero))]
+pub fn zero(ty: &ValType) -> Value
+    ensures { result ≡ value_zero ty.now }
+{
+    match ty {
+        ValType::Count => Value::Count(0),
     }
 }
 
@@ -70,5 +86,16 @@ pub(crate) fn is_zero(ty: &ValType, a: &Value) -> bool
 {
     match a {
         Value::Count(n) => *n == 0,
+    }
+}
+
+/// Whether a value of a type stands for all that are beyond the type's range.
+#[tactic(auto, unfolding(crate::specs::Values::value_is_over, crate::specs::Values::has_type))]
+pub fn is_over(ty: &ValType, a: &Value) -> bool
+    requires { has_type ty.now a.now ≡ true }
+    ensures { result ≡ value_is_over ty.now a.now }
+{
+    match (ty, a) {
+        (ValType::Count, Value::Count(n)) => *n == u64::MAX,
     }
 }
