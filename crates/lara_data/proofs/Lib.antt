@@ -1,4 +1,6 @@
+pub mod ColumnNames
 pub mod FitEquations
 pub mod MeaningEquations
+pub mod SizeEquations
 pub mod TypedEquations
 mod WorkedTables

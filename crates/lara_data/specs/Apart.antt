@@ -1,7 +1,7 @@
 -- Lists whose keys differ: to total them is to sort them, so anything goes through it; and what a total's keys keep.
 use Rattle.std.specs.Prelude.{◌≡◌, Bool, true, false, cond, ◌&&◌, not, List, [], ◌∷◌, ◌++◌}
 use Rattle.std.proofs.Common.{refl, sym, ap, ◌∙◌, subst}
-use Rattle.std.proofs.lemmas.Bool.{and_from, and_parts}
+use Rattle.std.proofs.lemmas.Bool.{and_from, and_parts, both_ways, not-true, not_from_false, false_from_ne_true}
 use Rattle.std.specs.List.{flat_map}
 use Rattle.std.specs.declared.cmp.Ordering.{Ordering}
 use Rattle.lara_semiring.specs.Rows.{row_plus, row_is_zero}
@@ -27,10 +27,6 @@ module _ {K : Type 0} (R : K → K → Ordering) where
 unfoldable pub AllKeys : {K : Type 0} → (K → Type 0) → List (Keyed K) → Type 0
 AllKeys P [] = Unit {0}
 AllKeys P (e ∷ es) = P e.key × AllKeys P es
-
-not_both : (b : Bool) → b ≡ true → not b ≡ true → ⊥
-not_both true e f = cc
-not_both false e f = cc
 
 keep_kept : {K : Type 0} (ts : Types) (e : Keyed K) (t : List (Keyed K)) → IsKept ts e.row → keep ts e.key (own ts e) t ≡ e ∷ t
 unfolding keep
@@ -71,7 +67,7 @@ module _ {K L : Type 0} {R : K → K → Ordering} {S : L → L → Ordering} (k
       elim (before R e.key f.key) as (λ b. SameAt S us (flat_map g (cond b (keep ts e.key (own ts e) (f ∷ t)) (cond (same_key R e.key f.key) (keep ts f.key (row_plus ts e.row f.row) t) (f ∷ put R ts e t)))) (g e ++ (g f ++ flat_map g t))) [
         | true ↦ subst (λ (x : List (Keyed K)). SameAt S us (flat_map g x) (g e ++ (g f ++ flat_map g t))) (sym (keep_kept ts e (f ∷ t) k)) (SameAt-refl lo us (g e ++ (g f ++ flat_map g t)))
         | false ↦ elim (same_key R e.key f.key) as (λ b. same_key R e.key f.key ≡ b → SameAt S us (flat_map g (cond b (keep ts f.key (row_plus ts e.row f.row) t) (f ∷ put R ts e t))) (g e ++ (g f ++ flat_map g t))) [
-          | true ↦ λ s. absurd (not_both (same_key R e.key f.key) s (and_parts (not (same_key R e.key f.key)) (lacks R e.key t) h).0)
+          | true ↦ λ s. absurd (both_ways (same_key R e.key f.key) (not-true (same_key R e.key f.key) (and_parts (not (same_key R e.key f.key)) (lacks R e.key t) h).0) s)
           | false ↦ λ s. SameAt-trans lo (SameAt-append lo (SameAt-refl lo us (g f)) (flat_put_apart e t (and_parts (not (same_key R e.key f.key)) (lacks R e.key t) h).1 k)) (three_turned lo us (g f) (g e) (flat_map g t))
         ] refl
       ]
@@ -125,13 +121,8 @@ module _ {K : Type 0} {R : K → K → Ordering} (ko : IsKeyOrder R) (P : K → 
 
 -- ---- other keys, each from one key
 
-true_false : (b : Bool) → b ≡ true → b ≡ false → ⊥
-true_false true e f = cc
-true_false false e f = cc
-
 not_by : (b : Bool) → (b ≡ true → ⊥) → not b ≡ true
-not_by true f = absurd (f refl)
-not_by false f = refl
+not_by b f = not_from_false b (false_from_ne_true b f)
 
 -- rows that a table may keep stay so under other keys
 pub kept_keys : {K L : Type 0} (h : K → L) (ts : Types) (es : List (Keyed K)) → AllKept ts es → AllKept ts (with_keys h es)
@@ -145,7 +136,7 @@ module _ {K L : Type 0} {R : K → K → Ordering} {S : L → L → Ordering} (k
   lacks_keys k [] p q b = refl
   lacks_keys k (e ∷ es) p q b =
       and_from _ _
-      (not_by (same_key S (h k) (h e.key)) (λ s. true_false (same_key R k e.key) (subst (λ (x : K). same_key R k x ≡ true) (inj k e.key p q.0 (same_key_is lo (h k) (h e.key) s)) (same_key_itself ko k)) (before_apart ko k e.key (and_parts (before R k e.key) (is_below R k es) b).0)))
+      (not_by (same_key S (h k) (h e.key)) (λ s. both_ways (same_key R k e.key) (before_apart ko k e.key (and_parts (before R k e.key) (is_below R k es) b).0) (subst (λ (x : K). same_key R k x ≡ true) (inj k e.key p q.0 (same_key_is lo (h k) (h e.key) s)) (same_key_itself ko k))))
       (lacks_keys k es p q.1 (and_parts (before R k e.key) (is_below R k es) b).1)
 
   pub apart_keys : (es : List (Keyed K)) → AllKeys P es → rises R es ≡ true → apart S (with_keys h es) ≡ true

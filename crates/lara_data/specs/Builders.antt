@@ -3,7 +3,7 @@ use Rattle.std.specs.Prelude.{◌≡◌, Bool, true, false, cond, not, List, [],
 use Rattle.std.proofs.Common.{refl, sym, ap, ◌∙◌, subst, arith, append_assoc}
 use Rattle.std.specs.List.{flat_map}
 use Rattle.std.specs.declared.cmp.Ordering.{Ordering}
-use Rattle.lara_semiring.specs.Rows.{row_zero, row_plus, row_plus_assoc, row_plus_comm, row_zero_plus, row_plus_zero, row_zero_has}
+use Rattle.lara_semiring.specs.Rows.{row_zero, row_plus, row_plus_assoc, row_plus_comm, row_zero_plus, row_zero_twice}
 use Rattle.lara_data.specs.declared.entry.Keyed.{Keyed}
 use Rattle.lara_data.specs.KeyedTables.{IsKeyOrder, Types, Row, same_key, at, SameAt, total}
 use Rattle.lara_data.specs.KeyedLaws.{at_none, SameAt-refl, SameAt-sym, SameAt-trans, SameAt-append, SameAt-swap, SameAt-cons, SameAt-total}
@@ -16,13 +16,10 @@ pub record IsLinear (ts us : Types) (f : Row → Row) : Type 0 where
   pub plus : (r s : Row) → row_plus us (row_zero us) (f (row_plus ts r s)) ≡ row_plus us (f r) (f s)
 
 pub id_linear : (ts : Types) → IsLinear ts ts (λ r. r)
-id_linear ts = record { none = at_whole_zero ts; plus = λ r s. row_zero_plus ts r s }
-  where
-    at_whole_zero : (ts : Types) → row_plus ts (row_zero ts) (row_zero ts) ≡ row_zero ts
-    at_whole_zero ts = row_plus_zero ts (row_zero ts) (row_zero_has ts)
+id_linear ts = record { none = row_zero_twice ts; plus = λ r s. row_zero_plus ts r s }
 
-not_both : (n : ℕ) → 1 + n ≡ 0 → ⊥
-not_both n h = omega arith
+one_is_none : (n : ℕ) → 1 + n ≡ 0 → ⊥
+one_is_none n h = omega arith
 
 pub flat_append : {X L : Type 0} (g : X → List (Keyed L)) (xs ys : List X) → flat_map g (xs ++ ys) ≡ flat_map g xs ++ flat_map g ys
 flat_append g [] ys = refl
@@ -67,7 +64,7 @@ at_home_none : {X K : Type 0} (belongs : X → Keyed K → Bool) (ps : List X) (
 at_home_none belongs [] e h = refl
 at_home_none belongs (p ∷ ps) e h =
     elim (belongs p e) as (λ b. cond b 1 0 + homes belongs ps e ≡ 0 → cond b (e ∷ []) [] ++ flat_map (λ x. cond (belongs x e) (e ∷ []) []) ps ≡ []) [
-      | true ↦ λ m. absurd (not_both (homes belongs ps e) m)
+      | true ↦ λ m. absurd (one_is_none (homes belongs ps e) m)
       | false ↦ λ m. at_home_none belongs ps e (omega arith)
     ] h
 
@@ -120,7 +117,7 @@ module _ {L : Type 0} {S : L → L → Ordering} (lo : IsKeyOrder S) where
       let mid : SameAt S us (ps ++ ((qs ++ rs) ++ ss)) (ps ++ ((rs ++ qs) ++ ss)) = SameAt-append lo (SameAt-refl lo us ps) (SameAt-append lo (SameAt-swap lo us qs rs) (SameAt-refl lo us ss)) in
       subst (λ (x : List (Keyed L)). SameAt S us x ((ps ++ rs) ++ (qs ++ ss))) (sym one) (subst (SameAt S us (ps ++ ((qs ++ rs) ++ ss))) two mid)
 
-  -- each of two passes over other items is additive, so their join is
+  -- what two passes give item by item is what the one gives and then the other
   pub flat_both : {X : Type 0} (us : Types) (f g : X → List (Keyed L)) (xs : List X) → SameAt S us (flat_map (λ x. f x ++ g x) xs) (flat_map f xs ++ flat_map g xs)
   flat_both us f g [] = SameAt-refl lo us []
   flat_both us f g (x ∷ xs) =
@@ -130,7 +127,7 @@ module _ {L : Type 0} {S : L → L → Ordering} (lo : IsKeyOrder S) where
   flat_same us f g h [] = SameAt-refl lo us []
   flat_same us f g h (x ∷ xs) = SameAt-append lo (h x) (flat_same us f g h xs)
 
-  -- a join's side: for each item of the other side, what is additive
+  -- one side of a join: an additive pass for each item of the other side
   pub additive_each : {X K : Type 0} {ts us : Types} (g : X → Keyed K → List (Keyed L)) → ((x : X) → IsAdditive S ts us (g x)) → (xs : List X) → IsAdditive S ts us (λ (e : Keyed K). flat_map (λ x. g x e) xs)
   additive_each {X} {K} {ts} {us} g a xs = record {
     none = λ k. subst (SameAt S us (flat_map (λ x. g x (record { key = k; row = row_zero ts })) xs)) (flat_none xs) (flat_same us _ _ (λ x. (a x).none k) xs);
@@ -170,7 +167,7 @@ module _ {L : Type 0} {S : L → L → Ordering} (lo : IsKeyOrder S) where
       let here = subst (SameAt S ts (flat_map (λ p. cond (belongs p x) (x ∷ []) []) ps)) (at_home belongs ps x h.0) (SameAt-refl lo ts (flat_map (λ p. cond (belongs p x) (x ∷ []) []) ps)) in
       SameAt-trans lo step (SameAt-trans lo split (SameAt-append lo here (SameAt-pieces ts belongs ps xs h.1)))
 
-  -- what is emitted and what is left, piece by piece, is the whole: emitting moves a part of one piece
+  -- a part of what is left that goes, as one entry of its sum, to what was given out leaves the whole as it was
   pub SameAt-moved : (ts : Types) (out part rest whole : List (Keyed L)) (share : Keyed L) → SameAt S ts (share ∷ []) part → SameAt S ts (out ++ (part ++ rest)) whole → SameAt S ts ((out ++ share ∷ []) ++ rest) whole
   SameAt-moved ts out part rest whole share h g =
       let moved : SameAt S ts ((out ++ share ∷ []) ++ rest) ((out ++ part) ++ rest) = SameAt-append lo (SameAt-append lo (SameAt-refl lo ts out) h) (SameAt-refl lo ts rest) in

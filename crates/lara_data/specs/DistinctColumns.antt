@@ -1,40 +1,32 @@
 -- The columns of a table's type are distinct.
 use Rattle.std.specs.Prelude.{◌≡◌, Bool, true, false, ◌&&◌, ◌||◌, not, List, [], ◌∷◌, length, nat_lt}
 use Rattle.std.proofs.Common.{refl, sym, ap, ◌∙◌}
-use Rattle.std.proofs.lemmas.Bool.{and_from, and_parts}
+use Rattle.std.proofs.lemmas.Bool.{and_from, and_left, and_parts}
 use Rattle.std.specs.Str.{bytes_eq}
-use Rattle.std.proofs.lemmas.Slice.Eq.{bytes_eq-Decides}
 use Rattle.lara_data.specs.declared.table_type.KeyCol.{KeyCol}
 use Rattle.lara_data.specs.declared.table_type.ValCol.{ValCol}
 use Rattle.lara_data.specs.TableTypes.{key_names, has_key, has_val, are_vals_distinct, are_distinct, are_columns}
 use Rattle.lara_data.specs.Names.{Name, same_name, has, distinct, not_true}
 use Rattle.lara_data.specs.Vals.{Vals, same_col, has_col}
 use Rattle.lara_data.specs.ValSets.{distinct_cols}
-use Rattle.lara_data.specs.Sequences.{equal_tests}
+use Rattle.lara_data.specs.Sequences.{turned_name}
 
-turned_name : (a b : Name) → bytes_eq a b ≡ same_name b a
-unfolding same_name
-turned_name a b = equal_tests (bytes_eq a b) (bytes_eq b a) (λ e. (bytes_eq-Decides b a).1 (sym ((bytes_eq-Decides a b).0 e))) (λ e. (bytes_eq-Decides a b).1 (sym ((bytes_eq-Decides b a).0 e)))
-
-has_key_is : (n : Name) (keys : List KeyCol) → has_key n keys ≡ has (key_names keys) n
+-- a key column has the name where it is among theirs
+pub has_key_is : (n : Name) (keys : List KeyCol) → has_key n keys ≡ has (key_names keys) n
 unfolding has
 has_key_is n [] = refl
-has_key_is n (k ∷ keys) = λ i. turned_name k.name n i || has_key_is n keys i
+has_key_is n (k ∷ keys) = λ i. sym (turned_name k.name n) i || has_key_is n keys i
 
 or_false : (p q r s : Bool) → (p || q) ≡ false → (p ≡ false → r ≡ false) → (q ≡ false → s ≡ false) → (r || s) ≡ false
 or_false true q r s h f g = cc
 or_false false q r s h f g = (λ i. f refl i || s) ∙ g h
-
-and_off : (p q : Bool) → p ≡ false → (p && q) ≡ false
-and_off true q h = cc
-and_off false q h = refl
 
 has_col_by : (c : ValCol) (cs : Vals) → has_val c.name cs ≡ false → has_col cs c ≡ false
 unfolding has_col same_col
 has_col_by c [] h = refl
 has_col_by c (d ∷ cs) h =
     or_false (bytes_eq d.name c.name) (has_val c.name cs) (same_col c d) (has_col cs c) h
-    (λ e. and_off (same_name c.name d.name) _ (sym (turned_name d.name c.name) ∙ e))
+    (λ e. and_left (same_name c.name d.name) _ (turned_name d.name c.name ∙ e))
     (λ e. has_col_by c cs e)
 
 distinct_vals : (vals : Vals) → are_vals_distinct vals ≡ true → distinct_cols vals ≡ true
@@ -45,9 +37,10 @@ distinct_vals (v ∷ vals) h =
     (ap not (has_col_by v vals (not_true (has_val v.name vals) (and_parts (not (has_val v.name vals)) (are_vals_distinct vals) h).0)))
     (distinct_vals vals (and_parts (not (has_val v.name vals)) (are_vals_distinct vals) h).1)
 
-vals_of : (keys : List KeyCol) (vals : Vals) → are_distinct keys vals ≡ true → are_vals_distinct vals ≡ true
-vals_of [] vals h = h
-vals_of (k ∷ keys) vals h = vals_of keys vals (and_parts (not (has_key k.name keys) && not (has_val k.name vals)) (are_distinct keys vals) h).1
+-- no two value columns have one name
+pub vals_distinct : (keys : List KeyCol) (vals : Vals) → are_distinct keys vals ≡ true → are_vals_distinct vals ≡ true
+vals_distinct [] vals h = h
+vals_distinct (k ∷ keys) vals h = vals_distinct keys vals (and_parts (not (has_key k.name keys) && not (has_val k.name vals)) (are_distinct keys vals) h).1
 
 distinct_keys : (keys : List KeyCol) (vals : Vals) → are_distinct keys vals ≡ true → distinct (key_names keys) ≡ true
 unfolding distinct
@@ -67,4 +60,4 @@ distinct_key_names keys vals h = distinct_keys keys vals (of_columns keys vals h
 
 -- the value columns are distinct
 pub distinct_val_cols : (keys : List KeyCol) (vals : Vals) → are_columns keys vals ≡ true → distinct_cols vals ≡ true
-distinct_val_cols keys vals h = distinct_vals vals (vals_of keys vals (of_columns keys vals h))
+distinct_val_cols keys vals h = distinct_vals vals (vals_distinct keys vals (of_columns keys vals h))

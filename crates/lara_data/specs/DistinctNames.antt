@@ -4,7 +4,8 @@ use Rattle.std.proofs.Common.{refl, sym, ap, ◌∙◌, subst, arith, suc}
 use Rattle.std.proofs.lemmas.Bool.{and_from, and_parts}
 use Rattle.std.proofs.Math.Bool.{and-false}
 use Rattle.std.proofs.lemmas.List.{take-append-drop}
-use Rattle.lara_data.specs.Names.{Name, same_name, same_name_is, same_name_itself, has, has_head, has_tail, has_append, has_among, among, among_by, distinct, common, others, not_true}
+use Rattle.std.proofs.lemmas.List.Sums.{length-filter, count_by-le-length}
+use Rattle.lara_data.specs.Names.{Name, same_name, same_name_is, same_name_itself, has, has_head, has_tail, has_append, has_among, among, among_by, distinct, common, others, other_name, not_true}
 use Rattle.lara_data.specs.Algebra.{Heading}
 use Rattle.lara_data.specs.Sequences.{SameNames, SameNames-by, SameNames-common, same_has, has_filter}
 use Rattle.lara_data.specs.FirstColumns.{StandFirst}
@@ -40,11 +41,8 @@ distinct_others ns ms d e =
 without : Name → List Name → List Name
 without n ms = filter (λ m. not (same_name m n)) ms
 
-filter_shorter : (p : Name → Bool) (ms : List Name) → length (filter p ms) ≤ length ms
-filter_shorter p [] = omega arith
-filter_shorter p (m ∷ ms) =
-    let h = filter_shorter p ms in
-    elim (p m) as (λ b. length (cond b (m ∷ filter p ms) (filter p ms)) ≤ suc (length ms)) [ true ↦ omega (arith, h) | false ↦ omega (arith, h) ]
+pub filter_shorter : (p : Name → Bool) (ms : List Name) → length (filter p ms) ≤ length ms
+filter_shorter p ms = omega (arith, length-filter p ms, count_by-le-length p ms)
 
 without_shorter : (n : Name) (ms : List Name) → has ms n ≡ true → length (without n ms) + 1 ≤ length ms
 unfolding without has
@@ -71,17 +69,10 @@ at_least (n ∷ ns) ms d h =
     let f = not_true (has ns n) (and_parts (not (has ns n)) (distinct ns) d).0 in
     let a = (and_parts (has ms n) (among ms ns) h).0 in
     let b = (and_parts (has ms n) (among ms ns) h).1 in
-    let sub : among (without n ms) ns ≡ true = among_by (without n ms) ns (λ m k. has_without n m ms (has_among ms ns m b k) (apart n m ns f k)) in
+    let sub : among (without n ms) ns ≡ true = among_by (without n ms) ns (λ m k. has_without n m ms (has_among ms ns m b k) (other_name n m ns f k)) in
     let one = at_least ns (without n ms) (and_parts (not (has ns n)) (distinct ns) d).1 sub in
     let two = without_shorter n ms a in
     omega (arith, one, two)
-  where
-    apart : (n m : Name) (ns : List Name) → has ns n ≡ false → has ns m ≡ true → same_name m n ≡ false
-    apart n m ns f k =
-        elim (same_name m n) as (λ b. same_name m n ≡ b → b ≡ false) [
-          | true ↦ λ s. let e : has ns m ≡ has ns n = ap (has ns) (same_name_is m n s) in cc
-          | false ↦ λ s. refl
-        ] refl
 
 -- distinct columns that are the same as a set are as many
 pub same_length : (ns ms : List Name) → distinct ns ≡ true → distinct ms ≡ true → SameNames ns ms → length ns ≡ length ms

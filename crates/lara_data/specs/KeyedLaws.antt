@@ -3,13 +3,10 @@ use Rattle.std.specs.Prelude.{◌≡◌, Bool, true, false, cond, ◌&&◌, ◌|
 use Rattle.std.proofs.Common.{refl, sym, ap, ◌∙◌, subst, append_assoc}
 use Rattle.std.proofs.lemmas.Bool.{and_parts, and_from, or_parts}
 use Rattle.std.specs.declared.cmp.Ordering.{Ordering}
-use Rattle.lara_semiring.specs.Rows.{row_zero, row_plus, row_is_zero, row_plus_assoc, row_plus_comm, row_zero_plus, row_plus_zero, row_zero_has, row_zero_is_zero, row_zero_from_is_zero}
+use Rattle.lara_semiring.specs.Rows.{row_zero, row_plus, row_is_zero, row_plus_assoc, row_plus_comm, row_zero_plus, row_zero_twice, row_zero_is_zero, row_zero_from_is_zero}
 use Rattle.lara_data.specs.declared.entry.Keyed.{Keyed}
 use Rattle.lara_data.specs.KeyedTables.{IsKeyOrder, Types, Row, same_key, before, at, SameAt, is_below, rises, IsKept, AllKept, IsTable, key_put, key_set, at_keys, total}
 use Rattle.lara_data.specs.KeyedOrder.{same_key_itself, same_key_is, before_trans, before_apart, after_by}
-
-zero_twice : (ts : Types) → row_plus ts (row_zero ts) (row_zero ts) ≡ row_zero ts
-zero_twice ts = row_plus_zero ts (row_zero ts) (row_zero_has ts)
 
 or_turned : (a b c : Bool) → (a || (b || c)) ≡ (b || (a || c))
 or_turned true true c = refl
@@ -42,7 +39,7 @@ module _ {K : Type 0} {R : K → K → Ordering} (ko : IsKeyOrder R) where
   -- what a list has at a key is its own sum
   pub at_whole : (ts : Types) (es : List (Keyed K)) (k : K) → row_plus ts (row_zero ts) (at R ts es k) ≡ at R ts es k
   unfolding at
-  at_whole ts [] k = zero_twice ts
+  at_whole ts [] k = row_zero_twice ts
   at_whole ts (e ∷ es) k =
       elim (same_key R k e.key) as (λ b. row_plus ts (row_zero ts) (cond b (row_plus ts e.row (at R ts es k)) (at R ts es k)) ≡ cond b (row_plus ts e.row (at R ts es k)) (at R ts es k)) [
         | true ↦ row_zero_plus ts e.row (at R ts es k)
@@ -160,7 +157,7 @@ module _ {K : Type 0} {R : K → K → Ordering} (ko : IsKeyOrder R) where
       let h' : (same_key R q e.key || has_key R q (key_set R es)) ≡ false = sym (has_key_put q e.key (key_set R es)) ∙ h in
       rw (or_parts (same_key R q e.key) (has_key R q (key_set R es)) h').0 (at_absent ts es q (or_parts (same_key R q e.key) (has_key R q (key_set R es)) h').1)
 
-  -- a rising list of keys has not the key that is before them
+  -- a key before other keys is none of them
   before_keys_absent : (q : K) (ks : List K) → is_before_keys R q ks ≡ true → has_key R q ks ≡ false
   before_keys_absent q [] h = refl
   before_keys_absent q (x ∷ xs) h = rw (before_apart ko q x (and_parts (before R q x) (is_before_keys R q xs) h).0) (before_keys_absent q xs (and_parts (before R q x) (is_before_keys R q xs) h).1)

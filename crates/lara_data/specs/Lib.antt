@@ -5,6 +5,7 @@ pub mod AlgebraAt
 pub mod AlgebraSums
 pub mod AlgebraTyped
 pub mod Apart
+pub mod Atoms
 pub mod Builders
 pub mod Codes
 pub mod Denotations
@@ -31,6 +32,7 @@ pub mod Stored
 pub mod Supports
 pub mod TableTypes
 pub mod Tables
+pub mod TreeSizes
 pub mod TypeRuleLaws
 pub mod TypeRules
 pub mod TypedScripts

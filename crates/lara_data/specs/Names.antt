@@ -79,7 +79,7 @@ pub same_name_itself : (a : Name) → same_name a a ≡ true
 unfolding same_name
 same_name_itself a = (bytes_eq-Decides a a).1 refl
 
-or_by : (p q : Bool) → p ≡ false → (p || q) ≡ true → q ≡ true
+pub or_by : (p q : Bool) → p ≡ false → (p || q) ≡ true → q ≡ true
 or_by true q h e = cc
 or_by false q h e = e
 
@@ -168,6 +168,18 @@ read_right (m ∷ ns) ms (v ∷ x) y n l h =
       | false ↦ λ e. read_right ns ms x y n (omega arith) e
     ] h
 
+-- a name that is among names is none that is not
+pub other_name : (n m : Name) (ns : List Name) → has ns n ≡ false → has ns m ≡ true → same_name m n ≡ false
+other_name n m ns f h =
+    elim (same_name m n) as (λ b. same_name m n ≡ b → b ≡ false) [
+      | true ↦ λ s. let e : has ns m ≡ has ns n = ap (has ns) (same_name_is m n s) in cc
+      | false ↦ λ s. refl
+    ] refl
+
+-- past the first column
+pub past_first : (n m : Name) (ns : List Name) (v w : KeyVal) → has ns n ≡ false → has ns m ≡ true → cond (same_name m n) v w ≡ w
+past_first n m ns v w f h = ap (λ b. cond b v w) (other_name n m ns f h)
+
 -- a key of as many columns, cut to its own
 pub cut_itself : (ns : List Name) (k : Tuple) → distinct ns ≡ true → length k ≡ length ns → cut ns ns k ≡ k
 unfolding cut read distinct
@@ -177,12 +189,5 @@ cut_itself (n ∷ ns) [] d l = absurd (omega arith)
 cut_itself (n ∷ ns) (v ∷ k) d l =
     let fresh = not_true (has ns n) (and_parts (not (has ns n)) (distinct ns) d).0 in
     let here : cond (same_name n n) v (read ns k n) ≡ v = ap (λ b. cond b v (read ns k n)) (same_name_itself n) in
-    let there : map (λ m. cond (same_name m n) v (read ns k m)) ns ≡ map (read ns k) ns = map_same _ _ ns (λ m h. skip n m ns v (read ns k m) fresh h) in
+    let there : map (λ m. cond (same_name m n) v (read ns k m)) ns ≡ map (read ns k) ns = map_same _ _ ns (λ m h. past_first n m ns v (read ns k m) fresh h) in
     λ i. here i ∷ (there ∙ cut_itself ns k (and_parts (not (has ns n)) (distinct ns) d).1 (omega arith)) i
-  where
-    skip : (n m : Name) (ns : List Name) (v w : KeyVal) → has ns n ≡ false → has ns m ≡ true → cond (same_name m n) v w ≡ w
-    skip n m ns v w f h =
-        elim (same_name m n) as (λ b. same_name m n ≡ b → cond b v w ≡ w) [
-          | true ↦ λ s. let e : has ns m ≡ has ns n = ap (has ns) (same_name_is m n s) in cc
-          | false ↦ λ s. refl
-        ] refl

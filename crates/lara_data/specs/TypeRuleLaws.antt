@@ -4,7 +4,7 @@ use Rattle.std.proofs.Common.{refl, sym, ap, ◌∙◌, arith, suc}
 use Rattle.std.specs.List.{list_any}
 use Rattle.std.specs.Str.{bytes_eq}
 use Rattle.std.proofs.Math.Bool.{and-false}
-use Rattle.std.proofs.lemmas.Bool.{ltb-true, ltb-false, lt-ltb, and_parts, and_from, or_parts}
+use Rattle.std.proofs.lemmas.Bool.{ltb-true, ltb-false, lt-ltb, and_parts, and_from, or_parts, or_left, or_right, not-false, both_ways, false_from_ne_true}
 use Rattle.std.proofs.lemmas.List.{length-map}
 use Rattle.std.proofs.lemmas.List.Folds.{list_any-append}
 use Rattle.std.proofs.lemmas.Slice.Eq.{bytes_eq-Decides}
@@ -12,25 +12,16 @@ use Rattle.lara_data.specs.declared.refusal.Kind.TheVariants.{NameTwice, TooMany
 use Rattle.lara_data.specs.declared.table_type.KeyCol.{KeyCol}
 use Rattle.lara_data.specs.declared.table_type.ValCol.{ValCol}
 use Rattle.lara_data.specs.TableTypes.{Columns, key_names, has_key, has_val, are_vals_distinct, are_distinct, are_columns}
-use Rattle.lara_data.specs.Names.{Name, same_name, same_name_is, has, has_head, has_tail, has_append, has_among, among, distinct, common, others, not_true}
+use Rattle.lara_data.specs.Names.{Name, same_name, same_name_is, has, has_head, has_tail, has_append, has_among, among, distinct, common, others, or_by, not_true}
 use Rattle.lara_data.specs.Vals.{Vals, same_type, same_col, same_col_is, same_col_itself, has_col}
-use Rattle.lara_data.specs.Sequences.{SameNames, SameNames-by, equal_tests, has_filter, has_others}
-use Rattle.lara_data.specs.DistinctNames.{distinct_filter, distinct_others, same_length}
-use Rattle.lara_data.specs.DistinctColumns.{distinct_key_names}
+use Rattle.lara_data.specs.Sequences.{SameNames, SameNames-by, turned_name, has_filter, has_others}
+use Rattle.lara_data.specs.DistinctNames.{distinct_filter, distinct_others, filter_shorter, same_length}
+use Rattle.lara_data.specs.DistinctColumns.{has_key_is, vals_distinct, distinct_key_names}
 use Rattle.lara_data.specs.Algebra.{common_vals, key_cols, join_columns, union_columns, agg_columns}
 use Rattle.lara_data.specs.Headings.{heading_join, heading_union, names_key_cols}
 use Rattle.lara_data.specs.TypeRules.{Typing, is_other_val, val_differs, key_differs, types_differ, is_none, too_many, few_enough, join_type, union_type, agg_type}
 
 -- ---- names of columns
-
-turned : (a b : Name) → bytes_eq a b ≡ same_name b a
-unfolding same_name
-turned a b = equal_tests (bytes_eq a b) (bytes_eq b a) (λ e. (bytes_eq-Decides b a).1 (sym ((bytes_eq-Decides a b).0 e))) (λ e. (bytes_eq-Decides a b).1 (sym ((bytes_eq-Decides b a).0 e)))
-
-key_named : (n : Name) (keys : List KeyCol) → has_key n keys ≡ has (key_names keys) n
-unfolding has
-key_named n [] = refl
-key_named n (k ∷ keys) = λ i. turned k.name n i || key_named n keys i
 
 no_val_filter : (p : ValCol → Bool) (n : Name) (vals : Vals) → has_val n vals ≡ false → has_val n (filter p vals) ≡ false
 no_val_filter p n [] h = refl
@@ -45,10 +36,6 @@ no_val_append : (n : Name) (vs ws : Vals) → has_val n vs ≡ false → has_val
 no_val_append n vs ws h g = list_any-append (λ (v : ValCol). bytes_eq v.name n) vs ws ∙ (λ i. h i || g i)
 
 -- ---- distinct columns
-
-vals_of : (keys : List KeyCol) (vals : Vals) → are_distinct keys vals ≡ true → are_vals_distinct vals ≡ true
-vals_of [] vals h = h
-vals_of (k ∷ keys) vals h = vals_of keys vals ((and_parts (not (has_key k.name keys) && not (has_val k.name vals)) (are_distinct keys vals) h).1)
 
 -- no key column has the name of a value column
 apart_of : (keys : List KeyCol) (vals : Vals) (n : Name) → are_distinct keys vals ≡ true → has (key_names keys) n ≡ true → has_val n vals ≡ false
@@ -67,7 +54,7 @@ distinct_by : (keys : List KeyCol) (vals : Vals) → distinct (key_names keys) �
 unfolding distinct
 distinct_by [] vals d e h = e
 distinct_by (k ∷ keys) vals d e h =
-    let fresh : not (has_key k.name keys) ≡ true = ap not (key_named k.name keys) ∙ (and_parts (not (has (key_names keys) k.name)) (distinct (key_names keys)) d).0 in
+    let fresh : not (has_key k.name keys) ≡ true = ap not (has_key_is k.name keys) ∙ (and_parts (not (has (key_names keys) k.name)) (distinct (key_names keys)) d).0 in
     let rest = distinct_by keys vals ((and_parts (not (has (key_names keys) k.name)) (distinct (key_names keys)) d).1) e (λ n g. h n (has_tail n k.name (key_names keys) g)) in
     and_from (not (has_key k.name keys) && not (has_val k.name vals)) (are_distinct keys vals)
     (and_from (not (has_key k.name keys)) (not (has_val k.name vals)) fresh (ap not (h k.name (has_head k.name (key_names keys))))) rest
@@ -107,34 +94,14 @@ of_few c h v d = few_columns c.keys c.vals (ltb-false 8 (length c.keys) ((or_par
 
 -- ---- names of value columns
 
-or_first : (p q : Bool) → p ≡ true → (p || q) ≡ true
-or_first true q h = refl
-or_first false q h = cc
-
-or_second : (p q : Bool) → q ≡ true → (p || q) ≡ true
-or_second true q h = refl
-or_second false q h = h
-
-or_rest : (p q : Bool) → p ≡ false → (p || q) ≡ true → q ≡ true
-or_rest true q h e = cc
-or_rest false q h e = e
-
-never : (p : Bool) → p ≡ true → p ≡ false → ⊥
-never true h e = cc
-never false h e = cc
-
-off : (p : Bool) → (p ≡ true → ⊥) → p ≡ false
-off true h = absurd (h refl)
-off false h = refl
-
 -- a value column that is among others has its name among theirs
 named_val : (ds : Vals) (c : ValCol) → has_col ds c ≡ true → has_val c.name ds ≡ true
 unfolding has_col
 named_val [] c h = cc
 named_val (d ∷ ds) c h =
     elim (same_col c d) as (λ b. same_col c d ≡ b → has_val c.name (d ∷ ds) ≡ true) [
-      | true ↦ λ s. or_first (bytes_eq d.name c.name) (has_val c.name ds) (ap (λ x. bytes_eq d.name x.name) (same_col_is c d s) ∙ (bytes_eq-Decides d.name d.name).1 refl)
-      | false ↦ λ s. or_second (bytes_eq d.name c.name) (has_val c.name ds) (named_val ds c (or_rest (same_col c d) (has_col ds c) s h))
+      | true ↦ λ s. or_left (bytes_eq d.name c.name) (has_val c.name ds) (ap (λ x. bytes_eq d.name x.name) (same_col_is c d s) ∙ (bytes_eq-Decides d.name d.name).1 refl)
+      | false ↦ λ s. or_right (bytes_eq d.name c.name) (has_val c.name ds) (named_val ds c (or_by (same_col c d) (has_col ds c) s h))
     ] refl
 
 -- a name that no right value column has is none of a common one
@@ -143,7 +110,7 @@ no_common n [] ds h = refl
 no_common n (c ∷ cs) ds h =
     elim (has_col ds c) as (λ b. has_col ds c ≡ b → has_val n (cond b (c ∷ filter (has_col ds) cs) (filter (has_col ds) cs)) ≡ false) [
       | true ↦ λ s.
-          let fresh : bytes_eq c.name n ≡ false = off (bytes_eq c.name n) (λ e. never (has_val n ds) (ap (λ m. has_val m ds) (sym ((bytes_eq-Decides c.name n).0 e)) ∙ named_val ds c s) h) in
+          let fresh : bytes_eq c.name n ≡ false = false_from_ne_true (bytes_eq c.name n) (λ e. both_ways (has_val n ds) h (ap (λ m. has_val m ds) (sym ((bytes_eq-Decides c.name n).0 e)) ∙ named_val ds c s)) in
           (λ i. fresh i || no_common n cs ds h i)
       | false ↦ λ s. no_common n cs ds h
     ] refl
@@ -154,7 +121,7 @@ distinct_join : (a b : Columns) → are_distinct a.keys a.vals ≡ true → are_
 distinct_join a b p q d e =
     let c = join_columns a b in
     let names : key_names c.keys ≡ key_names a.keys ++ others (key_names a.keys) (key_names b.keys) = ap (λ h. h.keys) (heading_join a b) in
-    distinct_by c.keys c.vals (ap distinct names ∙ distinct_others (key_names a.keys) (key_names b.keys) d e) (vals_filter (has_col b.vals) a.vals (vals_of a.keys a.vals p))
+    distinct_by c.keys c.vals (ap distinct names ∙ distinct_others (key_names a.keys) (key_names b.keys) d e) (vals_filter (has_col b.vals) a.vals (vals_distinct a.keys a.vals p))
     (λ n g. apart n (sym (ap (λ ns. has ns n) names ∙ has_append (key_names a.keys) (others (key_names a.keys) (key_names b.keys)) n ∙ ap (λ t. has (key_names a.keys) n || t) (has_others (key_names a.keys) (key_names b.keys) n)) ∙ g))
   where
     apart : (n : Name) → (has (key_names a.keys) n || (has (key_names b.keys) n && not (has (key_names a.keys) n))) ≡ true → has_val n (common_vals a.vals b.vals) ≡ false
@@ -166,15 +133,16 @@ distinct_join a b p q d e =
 
 -- ---- union
 
+-- a test that does not hold without another
+pub not_alone : (p q : Bool) → p ≡ true → (p && not q) ≡ false → q ≡ true
+not_alone true true e h = refl
+not_alone true false e h = sym h
+not_alone false q e h = cc
+
 -- where no types differ, a right value column of a left one's name is the left one
 same_by : (v d : ValCol) → is_other_val v d ≡ false → same_name v.name d.name ≡ true → same_col v d ≡ true
 unfolding same_col
-same_by v d h e = and_from (same_name v.name d.name) (same_type v.ty d.ty) e (by_two (same_name v.name d.name) (same_type v.ty d.ty) e h)
-  where
-    by_two : (p q : Bool) → p ≡ true → (p && not q) ≡ false → q ≡ true
-    by_two true true e h = refl
-    by_two true false e h = sym h
-    by_two false q e h = cc
+same_by v d h e = and_from (same_name v.name d.name) (same_type v.ty d.ty) e (not_alone (same_name v.name d.name) (same_type v.ty d.ty) e h)
 
 -- a left value column's name is none of a right-only one
 not_right : (cs ds : Vals) (v : ValCol) → has_col cs v ≡ true → list_any (is_other_val v) ds ≡ false → has_val v.name (filter (λ d. not (has_col cs d)) ds) ≡ false
@@ -184,7 +152,7 @@ not_right cs (d ∷ ds) v h g =
     elim (has_col cs d) as (λ b. has_col cs d ≡ b → has_val v.name (cond (not b) (d ∷ filter (λ d. not (has_col cs d)) ds) (filter (λ d. not (has_col cs d)) ds)) ≡ false) [
       | true ↦ λ s. rest
       | false ↦ λ s.
-          let fresh : bytes_eq d.name v.name ≡ false = off (bytes_eq d.name v.name) (λ e. never (has_col cs d) (ap (has_col cs) (sym (same_col_is v d (same_by v d ((or_parts (is_other_val v d) (list_any (is_other_val v) ds) g).0) (sym (turned d.name v.name) ∙ e)))) ∙ h) s) in
+          let fresh : bytes_eq d.name v.name ≡ false = false_from_ne_true (bytes_eq d.name v.name) (λ e. both_ways (has_col cs d) s (ap (has_col cs) (sym (same_col_is v d (same_by v d ((or_parts (is_other_val v d) (list_any (is_other_val v) ds) g).0) (turned_name d.name v.name ∙ e)))) ∙ h)) in
           (λ i. fresh i || rest i)
     ] refl
 
@@ -194,8 +162,8 @@ vals_append [] ws h g f = g
 vals_append (v ∷ vs) ws h g f =
     let fresh = not_true (has_val v.name vs) ((and_parts (not (has_val v.name vs)) (are_vals_distinct vs) h).0) in
     and_from (not (has_val v.name (vs ++ ws))) (are_vals_distinct (vs ++ ws))
-    (ap not (no_val_append v.name vs ws fresh (f v (or_first (same_col v v) (has_col vs v) (same_col_itself v)))))
-    (vals_append vs ws ((and_parts (not (has_val v.name vs)) (are_vals_distinct vs) h).1) g (λ w k. f w (or_second (same_col w v) (has_col vs w) k)))
+    (ap not (no_val_append v.name vs ws fresh (f v (or_left (same_col v v) (has_col vs v) (same_col_itself v)))))
+    (vals_append vs ws ((and_parts (not (has_val v.name vs)) (are_vals_distinct vs) h).1) g (λ w k. f w (or_right (same_col w v) (has_col vs w) k)))
 
 -- what no value column of the left meets, none of these does
 at_col : (p : ValCol → Bool) (vs : Vals) (v : ValCol) → list_any p vs ≡ false → has_col vs v ≡ true → p v ≡ false
@@ -204,7 +172,7 @@ at_col p [] v h g = cc
 at_col p (w ∷ vs) v h g =
     elim (same_col v w) as (λ b. same_col v w ≡ b → p v ≡ false) [
       | true ↦ λ s. ap p (same_col_is v w s) ∙ (or_parts (p w) (list_any p vs) h).0
-      | false ↦ λ s. at_col p vs v ((or_parts (p w) (list_any p vs) h).1) (or_rest (same_col v w) (has_col vs v) s g)
+      | false ↦ λ s. at_col p vs v ((or_parts (p w) (list_any p vs) h).1) (or_by (same_col v w) (has_col vs v) s g)
     ] refl
 
 vals_agree : (a b : Columns) (v : ValCol) → types_differ a b ≡ false → has_col a.vals v ≡ true → list_any (is_other_val v) b.vals ≡ false
@@ -218,7 +186,7 @@ distinct_union a b t p q d =
     let only : Vals = filter (λ v. not (has_col a.vals v)) b.vals in
     let names : key_names c.keys ≡ filter (has (key_names b.keys)) (key_names a.keys) = ap (λ h. h.keys) (heading_union a b) in
     distinct_by c.keys c.vals (ap distinct names ∙ distinct_filter (has (key_names b.keys)) (key_names a.keys) d)
-    (vals_append a.vals only (vals_of a.keys a.vals p) (vals_filter (λ v. not (has_col a.vals v)) b.vals (vals_of b.keys b.vals q)) (λ v g. not_right a.vals b.vals v g (vals_agree a b v t g)))
+    (vals_append a.vals only (vals_distinct a.keys a.vals p) (vals_filter (λ v. not (has_col a.vals v)) b.vals (vals_distinct b.keys b.vals q)) (λ v g. not_right a.vals b.vals v g (vals_agree a b v t g)))
     (λ n g.
     let there : (has (key_names a.keys) n && has (key_names b.keys) n) ≡ true = sym (ap (λ ns. has ns n) names ∙ has_filter (has (key_names b.keys)) (key_names a.keys) n) ∙ g in
     no_val_append n a.vals only (apart_of a.keys a.vals n p ((and_parts (has (key_names a.keys) n) (has (key_names b.keys) n) there).0))
@@ -226,18 +194,12 @@ distinct_union a b t p q d =
 
 -- ---- agg
 
-shorter : (p : Name → Bool) (ns : List Name) → length (filter p ns) ≤ length ns
-shorter p [] = omega arith
-shorter p (n ∷ ns) =
-    let h = shorter p ns in
-    elim (p n) as (λ b. length (cond b (n ∷ filter p ns) (filter p ns)) ≤ suc (length ns)) [ true ↦ omega (arith, h) | false ↦ omega (arith, h) ]
-
 -- distinct names among others are at most as many
 at_most : (ns ks : List Name) → distinct ns ≡ true → distinct ks ≡ true → among ns ks ≡ true → length ks ≤ length ns
 at_most ns ks d e h =
     let same : SameNames ks (filter (has ks) ns) = SameNames-by ks (filter (has ks) ns) (λ n. sym (has_filter (has ks) ns n ∙ there n)) in
     let one = same_length ks (filter (has ks) ns) e (distinct_filter (has ks) ns d) same in
-    let two = shorter (has ks) ns in
+    let two = filter_shorter (has ks) ns in
     omega (arith, one, two)
   where
     there : (n : Name) → (has ns n && has ks n) ≡ has ks n
@@ -250,7 +212,7 @@ at_most ns ks d e h =
 distinct_agg : (a : Columns) (ks : List Name) → are_distinct a.keys a.vals ≡ true → among (key_names a.keys) ks ≡ true → distinct ks ≡ true → are_distinct (agg_columns a ks).keys (agg_columns a ks).vals ≡ true
 distinct_agg a ks p h d =
     let names = names_key_cols a.keys ks h in
-    distinct_by (key_cols a.keys ks) a.vals (ap distinct names ∙ d) (vals_of a.keys a.vals p)
+    distinct_by (key_cols a.keys ks) a.vals (ap distinct names ∙ d) (vals_distinct a.keys a.vals p)
     (λ n g. apart_of a.keys a.vals n p (has_among (key_names a.keys) ks n h (sym (ap (λ ns. has ns n) names) ∙ g)))
 
 -- ---- the rules
@@ -317,11 +279,7 @@ agg_type_rules a ks c h =
     ] refl h
 
 some_val : (vs : Vals) → is_none vs ≡ false → 0 < length vs
-some_val vs h = ltb-true 0 (length vs) (by_not (nat_lt 0 (length vs)) h)
-  where
-    by_not : (p : Bool) → not p ≡ false → p ≡ true
-    by_not true e = refl
-    by_not false e = cc
+some_val vs h = ltb-true 0 (length vs) (not-false (nat_lt 0 (length vs)) h)
 
 -- the columns of a join, a union and an agg of tables are a table's, where the other rules are met
 pub join_are_columns : (a b : Columns) → are_columns a.keys a.vals ≡ true → are_columns b.keys b.vals ≡ true → is_none (common_vals a.vals b.vals) ≡ false → too_many (join_columns a b) ≡ false → are_columns (join_columns a b).keys (join_columns a b).vals ≡ true

@@ -7,7 +7,7 @@ use Rattle.lara_semiring.specs.declared.value.ValType.{ValType}
 use Rattle.lara_semiring.specs.declared.value.ValType.TheVariants as ty
 use Rattle.lara_semiring.specs.declared.value.Value.{Value}
 use Rattle.lara_semiring.specs.Values.{has_type, value_zero, value_plus, value_plus_zero, value_zero_is}
-use Rattle.lara_semiring.specs.Rows.{first, rest, row_has, row_zero, row_plus, row_zero_plus, row_plus_zero, row_zero_has}
+use Rattle.lara_semiring.specs.Rows.{first, rest, row_has, row_zero, row_plus, row_zero_plus, row_zero_twice}
 use Rattle.lara_semiring.specs.Products.{row_times, row_times_plus, row_plus_times, row_times_zero, row_zero_times, row_zero_plus_times}
 use Rattle.lara_data.specs.KeyedTables.{Types, Row}
 use Rattle.lara_data.specs.Builders.{IsLinear}
@@ -95,13 +95,10 @@ unfolding brought row_zero
 brought_zero ds [] = refl
 brought_zero ds (c ∷ cs) = λ i. read_zero ds c i ∷ brought_zero ds cs i
 
-zero_row_twice : (us : Types) → row_plus us (row_zero us) (row_zero us) ≡ row_zero us
-zero_row_twice us = row_plus_zero us (row_zero us) (row_zero_has us)
-
 -- to bring rows to other columns goes through sums, whatever the columns
 pub brought_linear : (ds cs : Vals) → IsLinear (types ds) (types cs) (brought ds cs)
 brought_linear ds cs = record {
-  none = ap (row_plus (types cs) (row_zero (types cs))) (brought_zero ds cs) ∙ zero_row_twice (types cs);
+  none = ap (row_plus (types cs) (row_zero (types cs))) (brought_zero ds cs) ∙ row_zero_twice (types cs);
   plus = λ r q. ap (row_plus (types cs) (row_zero (types cs))) (brought_plus ds cs r q) ∙ row_zero_plus (types cs) (brought ds cs r) (brought ds cs q);
 }
 

@@ -1,5 +1,6 @@
 //! What operators are given beside their operands.
-ghost use Rattle.std.specs.Prelude.{◌≡◌, IfOk};
+ghost use Rattle.std.specs.Prelude.{◌≡◌, IsTrue, IfOk, IsOk};
+ghost use Rattle.lara_data.specs.Atoms.{is_literal};
 
 use crate::expr::Expr;
 use crate::table_type::{KeyCol, ValCol};
@@ -44,7 +45,10 @@ pub struct NamePair {
 }
 
 impl Copied for Arg {
-    fn copy(&self, alloc: Global) -> Result<Arg, AllocError> {
+    fn copy(&self, alloc: Global) -> Result<Arg, AllocError>
+        ensures same { IfOk result (λ r. r ≡ self.now) }
+        ensures exact { IsTrue (is_literal self.now) → IsOk result }
+    {
         match self {
             Arg::Column(name) => Ok(Arg::Column(name.copy(alloc)?)),
             Arg::Literal(value) => Ok(Arg::Literal(value.copy(alloc)?)),

@@ -1,5 +1,6 @@
 //! Expressions over the columns of one entry.
-ghost use Rattle.std.specs.Prelude.{◌≡◌, IfOk};
+ghost use Rattle.std.specs.Prelude.{◌≡◌, IsTrue, IfOk, IsOk};
+ghost use Rattle.lara_data.specs.Atoms.{is_atom};
 
 use lara_base::{Boxed, Content, Copied, Name};
 use std::alloc::{AllocError, Global};
@@ -46,19 +47,28 @@ pub enum Expr {
 }
 
 impl Copied for TwoOp {
-    fn copy(&self, _alloc: Global) -> Result<TwoOp, AllocError> {
+    fn copy(&self, _alloc: Global) -> Result<TwoOp, AllocError>
+        ensures same { IfOk result (λ r. r ≡ self.now) }
+        ensures exact { IsOk result }
+    {
         Ok(*self)
     }
 }
 
 impl Copied for FunOp {
-    fn copy(&self, _alloc: Global) -> Result<FunOp, AllocError> {
+    fn copy(&self, _alloc: Global) -> Result<FunOp, AllocError>
+        ensures same { IfOk result (λ r. r ≡ self.now) }
+        ensures exact { IsOk result }
+    {
         Ok(*self)
     }
 }
 
 impl Copied for Expr {
-    fn copy(&self, alloc: Global) -> Result<Expr, AllocError> {
+    fn copy(&self, alloc: Global) -> Result<Expr, AllocError>
+        ensures same { IfOk result (λ r. r ≡ self.now) }
+        ensures exact { IsTrue (is_atom self.now) → IsOk result }
+    {
         match self {
             Expr::Column(name) => Ok(Expr::Column(name.copy(alloc)?)),
             Expr::Number(n) => Ok(Expr::Number(*n)),

@@ -1,8 +1,9 @@
-//! The algebra's constitution: table types, entries, the trees of scripts, plugins, and what tables, their operations
+//! What the algebra speaks of: table types, entries, the trees of scripts and plugins, and what tables, their operations
 //! and scripts mean.
 #![tactic(auto)]
 
 mod arg;
+mod columns;
 mod entry;
 mod expr;
 mod faults;
@@ -17,6 +18,10 @@ mod shape;
 mod table_type;
 
 pub use arg::{Arg, Call, Def, KeyDef, NamePair};
+pub use columns::{
+    all_keys, all_vals, common_keys, common_vals, is_key_name, key_cols, key_names, other_keys,
+    same_col, same_type,
+};
 pub use entry::{Cell, Entry, Keyed};
 pub use expr::{Expr, FunOp, TwoOp};
 pub use faults::{FileFault, IterFault};
@@ -32,3 +37,11 @@ pub use table_type::{KeyCol, TableType, ValCol};
 
 #[cfg(test)]
 mod tests;
+#[cfg(test)]
+mod tests_copies;
+#[cfg(test)]
+mod tests_faults;
+#[cfg(test)]
+mod tests_plugins;
+#[cfg(test)]
+mod tests_samples;

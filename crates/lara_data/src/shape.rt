@@ -1,5 +1,5 @@
 //! The types of cells, without names.
-ghost use Rattle.std.specs.Prelude.{◌≡◌, IfOk};
+ghost use Rattle.std.specs.Prelude.{◌≡◌, IfOk, IsOk};
 
 use lara_base::{Copied, List};
 use lara_key::KeyType;
@@ -41,7 +41,10 @@ impl Copied for Shape {
 }
 
 impl Copied for ColPair {
-    fn copy(&self, _alloc: Global) -> Result<ColPair, AllocError> {
+    fn copy(&self, _alloc: Global) -> Result<ColPair, AllocError>
+        ensures same { IfOk result (λ r. r ≡ self.now) }
+        ensures exact { IsOk result }
+    {
         Ok(*self)
     }
 }

@@ -1,38 +1,11 @@
-//! The calls where there is memory: which columns a table may have, and copies.
-ghost use Rattle.std.specs.Prelude.{◌≡◌, IfOk};
+//! Which columns a table may have, and copies of types and entries.
 
-use crate::{Entry, KeyCol, TableType, ValCol};
-use lara_base::{Copied, List, Name};
-use lara_key::{KeyType, KeyVal};
-use lara_semiring::{ValType, Value};
-use std::alloc::{AllocError, Global};
+use crate::tests_samples::{copy_of, entry, is_letter, key_cols, matrix_type, name, row, val_cols};
+use crate::{Cell, Schema, TableType};
+use lara_base::List;
+use lara_key::KeyVal;
+use lara_semiring::Value;
 use std::test::Fail;
-
-fn key_cols(alloc: Global, names: &[u8]) -> Result<List<KeyCol>, AllocError> {
-    let mut cols = List::new(alloc);
-    for n in names {
-        if let Some(name) = Name::new(List::from_slice(alloc, &[*n])?) {
-            cols.push(KeyCol {
-                name,
-                ty: KeyType::Nat,
-            })?;
-        }
-    }
-    Ok(cols)
-}
-
-fn val_cols(alloc: Global, names: &[u8]) -> Result<List<ValCol>, AllocError> {
-    let mut cols = List::new(alloc);
-    for n in names {
-        if let Some(name) = Name::new(List::from_slice(alloc, &[*n])?) {
-            cols.push(ValCol {
-                name,
-                ty: ValType::Count,
-            })?;
-        }
-    }
-    Ok(cols)
-}
 
 #[test]
 fn a_type_has_few_columns_of_distinct_names(rt: HostRuntime) -> Result<(), Fail> {
@@ -56,39 +29,50 @@ fn a_type_has_few_columns_of_distinct_names(rt: HostRuntime) -> Result<(), Fail>
 }
 
 #[test]
-fn a_type_is_copied_with_its_names(rt: HostRuntime) -> Result<(), Fail> {
+fn a_schema_is_copied_with_its_names(rt: HostRuntime) -> Result<(), Fail> {
     let alloc = rt.alloc();
-    let keys = key_cols(alloc, b"ij")?;
-    let vals = val_cols(alloc, b"v")?;
-    if let Some(ty) = TableType::new(keys, vals) {
-        let copy = ty.copy(alloc)?;
-        assert_eq!(rt; copy.keys.len(), 2);
-        assert_eq!(rt; copy.vals.len(), 1);
-        for (i, key) in copy.keys.as_slice().iter().enumerate() {
-            assert!(rt; key.name.same(&ty.keys[i].name));
-        }
-        for (i, val) in copy.vals.as_slice().iter().enumerate() {
-            assert!(rt; val.name.same(&ty.vals[i].name));
-        }
-        return Ok(());
+    let schema = Schema {
+        name: name(alloc, b't')?,
+        ty: matrix_type(alloc)?,
+    };
+    let copy = copy_of(alloc, &schema)?;
+    assert!(rt; is_letter(&copy.name, b't'));
+    assert_eq!(rt; copy.ty.keys.len(), 2);
+    Ok(())
+}
+
+#[test]
+fn a_type_is_copied_with_its_columns(rt: HostRuntime) -> Result<(), Fail> {
+    let alloc = rt.alloc();
+    let ty = copy_of(alloc, &matrix_type(alloc)?)?;
+    assert_eq!(rt; ty.keys.len(), 2);
+    assert_eq!(rt; ty.vals.len(), 1);
+    for (key, letter) in ty.keys.as_slice().iter().zip(b"ij") {
+        assert!(rt; is_letter(&copy_of(alloc, key)?.name, *letter));
     }
-    assert!(rt; false);
+    for val in ty.vals.as_slice() {
+        assert!(rt; is_letter(&copy_of(alloc, val)?.name, b'v'));
+    }
     Ok(())
 }
 
 #[test]
 fn an_entry_is_copied_with_its_key_and_row(rt: HostRuntime) -> Result<(), Fail> {
     let alloc = rt.alloc();
-    let mut key = List::new(alloc);
-    key.push(KeyVal::Nat(7))?;
-    let mut row = List::new(alloc);
-    row.push(Value::Count(9))?;
-    let entry = Entry { key, row };
-    let copy = entry.copy(alloc)?;
+    let copy = copy_of(alloc, &entry(alloc, 7, 9)?)?;
     assert_eq!(rt; copy.key.len(), 1);
-    assert!(rt; copy.key[0] == KeyVal::Nat(7));
+    assert!(rt; copy.key.get(0) == Some(&KeyVal::Nat(7)));
     assert_eq!(rt; copy.row.len(), 1);
-    let Value::Count(n) = copy.row[0];
-    assert_eq!(rt; n, 9);
+    for value in copy.row.as_slice() {
+        let Value::Count(n) = value;
+        assert_eq!(rt; *n, 9);
+    }
+    let cell = Cell {
+        key: List::from_slice(alloc, b"code")?,
+        row: row(alloc, 9)?,
+    };
+    let copy = copy_of(alloc, &cell)?;
+    assert!(rt; copy.key.as_slice() == b"code".as_slice());
+    assert_eq!(rt; copy.row.len(), 1);
     Ok(())
 }
