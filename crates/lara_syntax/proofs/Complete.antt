@@ -1,7 +1,7 @@
 -- What is in the grammar is read.
 use Rattle.std.proofs.Common.{◌≡◌, ℕ, suc, ◌<◌, ◌≤◌, ◌+◌, List, [], ◌∷◌, ◌++◌, length, Option, Some, None, refl, sym, ap, subst, ◌∙◌, arith, append_assoc, Bool, true, false, cond, nat_lt}
 use Rattle.std.proofs.lemmas.List.{append-nil, length-append}
-use Rattle.std.proofs.lemmas.Bool.{eq-eqb, lt-ltb}
+use Rattle.std.proofs.lemmas.Bool.{lt-ltb}
 use Rattle.lara_data.specs.declared.refusal.Kind.TheVariants.{Unexpected, TooMany}
 use Rattle.lara_key.specs.declared.key.KeyType.{KeyType}
 use Rattle.lara_semiring.specs.declared.value.ValType.{ValType}
@@ -24,7 +24,8 @@ use Rattle.lara_syntax.specs.declared.ast.AstStatement.{AstStatement}
 use Rattle.lara_syntax.specs.Limits.{Limits}
 use Rattle.lara_syntax.specs.Steps.{Items, Read, Reader, ◌>>=◌, give, refuse, peek, skip, items_from, head_word}
 use Rattle.lara_syntax.specs.Reading as r
-use Rattle.lara_syntax.specs.Reading.{sign_number, sign, sign_by, comma_by, node, Counted}
+use Rattle.lara_syntax.proofs.WordTextLaws.{same_sign-refl}
+use Rattle.lara_syntax.specs.Reading.{sign, sign_by, comma_by, node, Counted}
 use Rattle.lara_syntax.specs.Grammar.{Word, word, Mark, Named, Lit, number, KeyTyped, nat, ValTyped, count, Many, none, more, CommaThen, comma_then, Commas, commas, Maybe, nothing, just, KeyCol, key_col, ValCol, val_col, TypeOf, columns, Entry, entry, SemiEntry, semi_entry, SomeSemi, no_semi, semi, Entries, entries, Leaf, named, load, literal, Operand, leaf, inside, Table, join, union, agg, operand, SomeOrder, no_order, order, Statement, assign, print, Script}
 use Rattle.lara_syntax.proofs.Levels.{inside_rest}
 use Rattle.lara_syntax.proofs.Turns.{TakesOne, read_of, items-some, items-none}
@@ -48,7 +49,7 @@ chosen by ts w y e h = ap (λ (o : Option Lexeme). by o ts) e ∙ h
 
 pub sign_reads : (m : Sign) (at : ℕ) (ts us : Items) → Mark m at ts us → sign m ts ≡ read_of at us
 unfolding sign
-sign_reads m at ts us h = chosen (sign_by m) ts (Some (lex.Sign m)) (read_of at us) (head_is _ at ts us h) (ap (λ (b : Bool). cond b skip (refuse Unexpected) ts) (eq-eqb (sign_number m) (sign_number m) refl) ∙ skip_is _ at ts us h)
+sign_reads m at ts us h = chosen (sign_by m) ts (Some (lex.Sign m)) (read_of at us) (head_is _ at ts us h) (ap (λ (b : Bool). cond b skip (refuse Unexpected) ts) (same_sign-refl m) ∙ skip_is _ at ts us h)
 
 pub name_reads : (x : AstName) (ts us : Items) → Named x ts us → r.name ts ≡ read_of x us
 unfolding r.name

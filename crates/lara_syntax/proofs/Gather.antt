@@ -1,9 +1,7 @@
 -- A loop that gathers what a step gives, as code runs it.
 use Rattle.std.proofs.Common.{◌≡◌, ℕ, zero, suc, ◌<◌, List, [], ◌∷◌, ◌++◌, length, Option, Some, None, Ok, Err, refl, ap, ◌∙◌, arith}
 use Rattle.lara_data.specs.declared.refusal.Kind.{Kind}
-use Rattle.lara_syntax.specs.declared.scan_fault.ScanFault.{ScanFault}
-use Rattle.lara_syntax.specs.declared.scan_fault.ScanFault.TheVariants as faults
-use Rattle.lara_syntax.specs.ScanSteps.{Bytes, Scan, Scanner, gather_by, gather_within, gather, Fails}
+use Rattle.lara_syntax.specs.ScanSteps.{Bytes, Scan, Scanner, gather_by, gather_within, gather}
 
 -- what it gives takes a byte
 pub record TakesOne {A : Type 0} (one : Scanner (Option A)) : Type 0 where
@@ -55,8 +53,7 @@ gather-some one h xs ts x u e = gather-step one h xs ts ∙ rw e refl
 pub gather-none : {A : Type 0} (one : Scanner (Option A)) → TakesOne one → (xs : List A) (ts : Bytes) (o : Option A) (u : Bytes) → one ts ≡ Ok (o, u) → o ≡ None → gather one xs ts ≡ Ok (xs, u)
 gather-none one h xs ts o u e n = gather-step one h xs ts ∙ rw (e, n) refl
 
-pub gather-fail : {A : Type 0} (one : Scanner (Option A)) → TakesOne one → (xs : List A) (ts : Bytes) (e : ScanFault) → Fails e (one ts) → Fails e (gather one xs ts)
-gather-fail one h xs ts faults.Memory f = tt
-gather-fail one h xs ts (faults.Bad k) f = gather-step one h xs ts ∙ rw f refl
+pub gather-fail : {A : Type 0} (one : Scanner (Option A)) → TakesOne one → (xs : List A) (ts : Bytes) (k : Kind) → one ts ≡ Err k → gather one xs ts ≡ Err k
+gather-fail one h xs ts k e = gather-step one h xs ts ∙ rw e refl
 
 pub ruleset gather_laws = (gather-some, gather-none, gather-fail)

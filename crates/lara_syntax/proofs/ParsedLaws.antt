@@ -20,6 +20,8 @@ use Rattle.lara_syntax.specs.Refusals.{Refuses, at_word, at_end, at_token}
 use Rattle.lara_syntax.specs.Scripts.{Stands, SomeBegins}
 use Rattle.lara_syntax.proofs.Turns.{read_of, erred}
 use Rattle.lara_syntax.proofs.Readers.{ok_err}
+use Rattle.lara_syntax.specs.Readings.{Reads}
+use Rattle.lara_syntax.proofs.ReadLaws.{items-read, reads-items}
 use Rattle.lara_syntax.proofs.Complete.{script_reads}
 use Rattle.lara_syntax.proofs.ScriptLaws.{script_sound, StopsAt, stops_at, stopped_whole, begins_whole, none_begins, script_kinds, kind_of}
 
@@ -32,6 +34,17 @@ ok_is x y h = cc
 err_is : {A B : Type 0} (x y : B) → (let q : Result A B = Err x in q) ≡ Err y → x ≡ y
 err_is x y h = cc
 
+-- ---- how the bytes are read
+
+pub items_are : (bytes : List ℕ) (xs : Items) (stop : Option Refusal) → Reads (length bytes) bytes xs stop → items_of bytes ≡ xs
+items_are bytes xs stop reads = sym (reads-items bytes xs stop reads).0
+
+pub stop_are : (bytes : List ℕ) (xs : Items) (stop : Option Refusal) → Reads (length bytes) bytes xs stop → stop_of bytes ≡ stop
+stop_are bytes xs stop reads = sym (reads-items bytes xs stop reads).1
+
+read_so : (bytes : List ℕ) (xs : Items) (stop : Option Refusal) → items_of bytes ≡ xs → stop_of bytes ≡ stop → Reads (length bytes) bytes xs stop
+read_so bytes xs stop e h = subst (λ (q : Items). Reads (length bytes) bytes q stop) e (subst (λ (s : Option Refusal). Reads (length bytes) bytes (items_of bytes) s) h (items-read bytes))
+
 -- ---- what is answered stands in the grammar
 
 -- the words that were read make a script
@@ -42,7 +55,7 @@ found_by : (bytes : List ℕ) (rd : Read (List AstStatement)) (token : Option Re
 found_by bytes (Ok (xs, u)) (Some token) ast e t h = absurd (ok_not_err {A = Ast} {B = Refusal} ast token (sym h))
 found_by bytes (Ok (xs, u)) None ast e t h =
     let same : record { statements = xs } ≡ ast = ok_is {A = Ast} {B = Refusal} _ ast h in
-    subst (λ (a : Ast). Stands bytes a) same (whole_script (items_of bytes) xs u e, t)
+    subst (λ (a : Ast). Stands bytes a) same (record { items = items_of bytes; reading = read_so bytes (items_of bytes) None refl t; script = whole_script (items_of bytes) xs u e })
 found_by bytes (Err d) token ast e t h = absurd (ok_not_err {A = Ast} {B = Refusal} ast _ (sym h))
 
 pub parsed-found : (bytes : List ℕ) (ast : Ast) → parsed bytes ≡ Ok ast → Stands bytes ast
@@ -51,7 +64,9 @@ parsed-found bytes ast h = found_by bytes (r.script most (items_of bytes)) (stop
 
 pub parsed-only : (bytes : List ℕ) (ast : Ast) → Stands bytes ast → parsed bytes ≡ Ok ast
 unfolding parsed
-parsed-only bytes ast h = rw (script_reads most ast.statements (items_of bytes) h.0, h.1) refl
+parsed-only bytes ast h =
+    let script = subst (λ (q : Items). Script most ast.statements q) (sym (items_are bytes h.items None h.reading)) h.script in
+    rw (script_reads most ast.statements (items_of bytes) script, stop_are bytes h.items None h.reading) refl
 
 -- ---- what is refused
 
@@ -73,7 +88,7 @@ refused_word bytes d before bad after e parts len front =
     let there : r.script most (before ++ bad ∷ after) ≡ erred d = ap (r.script most) (sym parts) ∙ e in
     let place = word_place (length bytes) (items_of bytes) before bad after d.left parts len in
     subst (λ (at : ℕ). Refuses bytes (record { at = at; kind = d.kind })) (sym place)
-    (at_word before bad after d.kind parts front (none_begins most before bad after d there len) (kind_of most before bad after d there len))
+    (at_word before bad after (stop_of bytes) d.kind (read_so bytes (before ++ bad ∷ after) (stop_of bytes) parts refl) front (none_begins most before bad after d there len) (kind_of most before bad after d there len))
 
 -- at the end of the words
 end_kind : (d : Stop) → d.left ≡ 0 → (d.kind ≡ Unexpected) ⊎ ((d.kind ≡ TooMany) × (0 < d.left)) → d.kind ≡ Unexpected
@@ -82,13 +97,13 @@ end_kind d e (inr m) = absurd (omega (arith, e, m.1))
 
 refused_end : (bytes : List ℕ) (d : Stop) (token : Option Refusal) (refusal : Refusal) → r.script most (items_of bytes) ≡ erred d → stop_of bytes ≡ token → d.left ≡ 0 → at_end_of 0 token (refusal_of (length bytes) (items_of bytes) d) ≡ refusal → Refuses bytes refusal
 refused_end bytes d (Some t) refusal e h zero_left q =
-    at_token refusal (h ∙ ap (λ (x : Refusal). Some x) q) (stopped_whole most (items_of bytes) d zero_left (stops_at most (items_of bytes) d e))
+    at_token (items_of bytes) refusal (read_so bytes (items_of bytes) (Some refusal) refl (h ∙ ap (λ (x : Refusal). Some x) q)) (stopped_whole most (items_of bytes) d zero_left (stops_at most (items_of bytes) d e))
 refused_end bytes d None refusal e h zero_left q =
     let kind : d.kind ≡ Unexpected = end_kind d zero_left (script_kinds most (items_of bytes) d e) in
     let place = end_place (length bytes) (items_of bytes) d.left zero_left in
     let same : record { at = length bytes; kind = Unexpected } ≡ refusal = ap (λ (at : ℕ). record { at = at; kind = Unexpected }) (sym place) ∙ ap (λ (k : Kind). record { at = place_of (length bytes) (items_of bytes) d.left; kind = k }) (sym kind) ∙ q in
     subst (λ (x : Refusal). Refuses bytes x) same
-    (at_end h (stopped_whole most (items_of bytes) d zero_left (stops_at most (items_of bytes) d e)) (λ xs s. ok_err xs [] d (sym (script_reads most xs (items_of bytes) s) ∙ e)))
+    (at_end (items_of bytes) (read_so bytes (items_of bytes) None refl h) (stopped_whole most (items_of bytes) d zero_left (stops_at most (items_of bytes) d e)) (λ xs s. ok_err xs [] d (sym (script_reads most xs (items_of bytes) s) ∙ e)))
 
 refused_at : (bytes : List ℕ) (d : Stop) (bad : Items) → r.script most (items_of bytes) ≡ erred d → (s : StopsAt most (items_of bytes) d) → s.bad ≡ bad → (left : ℕ) → d.left ≡ suc left → Refuses bytes (refusal_of (length bytes) (items_of bytes) d)
 refused_at bytes d [] e s b left n = absurd (omega (arith, n, s.place, ap length b))
@@ -103,7 +118,7 @@ refused_stop bytes d token refusal (suc left) e h n q =
 refused_by : (bytes : List ℕ) (rd : Read (List AstStatement)) (token : Option Refusal) (refusal : Refusal) → r.script most (items_of bytes) ≡ rd → stop_of bytes ≡ token → answered (length bytes) (items_of bytes) token (read_value rd) ≡ Err refusal → Refuses bytes refusal
 refused_by bytes (Ok (xs, u)) (Some t) refusal e h q =
     let same : t ≡ refusal = err_is {A = Ast} {B = Refusal} t refusal q in
-    at_token refusal (h ∙ ap (λ (x : Refusal). Some x) same) (begins_whole most (items_of bytes) xs (whole_script (items_of bytes) xs u e))
+    at_token (items_of bytes) refusal (read_so bytes (items_of bytes) (Some refusal) refl (h ∙ ap (λ (x : Refusal). Some x) same)) (begins_whole most (items_of bytes) xs (whole_script (items_of bytes) xs u e))
 refused_by bytes (Ok (xs, u)) None refusal e h q = absurd (ok_not_err {A = Ast} {B = Refusal} _ refusal q)
 refused_by bytes (Err d) token refusal e h q = refused_stop bytes d token refusal d.left e h refl (err_is {A = Ast} {B = Refusal} _ refusal q)
 

@@ -1,5 +1,5 @@
 -- All refusals of a rule without limits are of one kind.
-use Rattle.std.proofs.Common.{◌≡◌, ◌<◌, ℕ, zero, suc, List, [], ◌∷◌, ◌++◌, length, Option, Some, None, Ok, Err, inl, inr, refl, sym, ap, ◌∙◌, arith, Bool, true, false, cond, eqb}
+use Rattle.std.proofs.Common.{◌≡◌, ◌<◌, ℕ, zero, suc, List, [], ◌∷◌, ◌++◌, length, Option, Some, None, Ok, Err, inl, inr, refl, sym, ap, ◌∙◌, arith, Bool, true, false, cond}
 use Rattle.lara_syntax.specs.declared.item.Lexeme.{Lexeme}
 use Rattle.lara_syntax.specs.declared.item.Lexeme.TheVariants as lex
 use Rattle.lara_syntax.specs.declared.item.Keyword.TheVariants as key
@@ -11,7 +11,8 @@ use Rattle.lara_syntax.specs.declared.fault.Fault.TheVariants as faults
 use Rattle.lara_syntax.specs.declared.ast.AstEntry.{AstEntry}
 use Rattle.lara_syntax.specs.Steps.{Items, Read, Reader, ◌>>=◌, give, refuse, peek, skip, items_from, head_word}
 use Rattle.lara_syntax.specs.Reading as r
-use Rattle.lara_syntax.specs.Reading.{sign, sign_by, sign_number}
+use Rattle.lara_syntax.specs.WordTexts.{same_sign}
+use Rattle.lara_syntax.specs.Reading.{sign, sign_by}
 use Rattle.lara_syntax.proofs.Turns.{TakesOne, erred, list-some, list-none, list-fail}
 use Rattle.lara_syntax.proofs.Readers.{bind_err, ok_err, stop_is}
 use Rattle.lara_syntax.proofs.RuleReaders.{comma_name-one, comma_key_col-one, comma_val_col-one, comma_lit-one, semi_entry-one, print_rest}
@@ -59,7 +60,7 @@ plain_cond true p q pp pq = pp
 plain_cond false p q pp pq = pq
 
 sign_by-plain : (m : Sign) (w : Option Lexeme) → Plain (sign_by m w)
-sign_by-plain m (Some (lex.Sign k)) = plain_cond (eqb (sign_number m) (sign_number k)) skip (refuse Unexpected) plain_skip plain_refuse
+sign_by-plain m (Some (lex.Sign k)) = plain_cond (same_sign m k) skip (refuse Unexpected) plain_skip plain_refuse
 sign_by-plain m w = plain_refuse
 
 pub sign-plain : (m : Sign) → Plain (sign m)

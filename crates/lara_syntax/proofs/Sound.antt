@@ -21,7 +21,7 @@ use Rattle.lara_syntax.specs.declared.ast.AstStatement.TheVariants as st
 use Rattle.lara_syntax.specs.Limits.{Limits}
 use Rattle.lara_syntax.specs.Steps.{Items, Reader, ◌>>=◌, give, refuse, skip, head_word}
 use Rattle.lara_syntax.specs.Reading as r
-use Rattle.lara_syntax.specs.Reading.{sign_number, sign, sign_by, comma_by, first_at, node, Counted}
+use Rattle.lara_syntax.specs.Reading.{sign, first_at, node, Counted}
 use Rattle.lara_syntax.specs.Grammar.{Word, Mark, Named, Lit, Many, Commas, commas, Maybe, nothing, just, KeyCol, key_col, ValCol, val_col, TypeOf, columns, Entry, entry, SemiEntry, semi_entry, SomeSemi, no_semi, semi, Entries, entries, Leaf, named, load, literal, Operand, leaf, inside, Table, join, union, agg, operand, SomeOrder, no_order, order, Statement, assign, print}
 use Rattle.lara_syntax.proofs.Levels.{inside_rest}
 use Rattle.lara_syntax.proofs.Turns.{read_of, rest_is, err_ok, none_some}

@@ -1,7 +1,6 @@
 -- What is read is in the grammar: words and lists.
-use Rattle.std.proofs.Common.{◌≡◌, ℕ, zero, suc, ◌<◌, Bool, true, false, cond, eqb, List, [], ◌∷◌, ◌++◌, length, Option, Some, None, Ok, Err, refl, sym, ap, subst, ◌∙◌, arith, append_assoc}
+use Rattle.std.proofs.Common.{◌≡◌, ℕ, zero, suc, ◌<◌, Bool, true, false, cond, List, [], ◌∷◌, ◌++◌, length, Option, Some, None, Ok, Err, refl, sym, ap, subst, ◌∙◌, arith, append_assoc}
 use Rattle.std.proofs.lemmas.List.{append-nil}
-use Rattle.std.proofs.lemmas.Bool.{eqb-true}
 use Rattle.lara_key.specs.declared.key.KeyType.{KeyType}
 use Rattle.lara_key.specs.declared.key.KeyType.TheVariants as key_type_of
 use Rattle.lara_semiring.specs.declared.value.ValType.{ValType}
@@ -10,17 +9,19 @@ use Rattle.lara_syntax.specs.declared.item.Lexeme.{Lexeme}
 use Rattle.lara_syntax.specs.declared.item.Lexeme.TheVariants as lex
 use Rattle.lara_syntax.specs.declared.item.Keyword.TheVariants as key
 use Rattle.lara_syntax.specs.declared.item.Sign.{Sign}
-use Rattle.lara_syntax.specs.declared.item.Sign.TheVariants.{Is, Semi, Comma, Colon, OpenBracket, CloseBracket, OpenBrace, CloseBrace, Open, Close, Plus, Times, PlusPlus, Equal, NotEqual, Less, LessEqual, Greater, GreaterEqual}
+use Rattle.lara_syntax.specs.declared.item.Sign.TheVariants.{Comma}
 use Rattle.lara_data.specs.declared.refusal.Kind.TheVariants.{Unexpected}
 use Rattle.lara_syntax.specs.declared.ast.AstName.{AstName}
 use Rattle.lara_syntax.specs.declared.ast.AstLit.{AstLit}
 use Rattle.lara_syntax.specs.declared.ast.AstValue.TheVariants as val
 use Rattle.lara_syntax.specs.Steps.{Items, Read, Reader, onward, ◌>>=◌, give, refuse, skip, turns, turns_within, turn, behind, list_from, items_from, head_word}
 use Rattle.lara_syntax.specs.Reading as r
-use Rattle.lara_syntax.specs.Reading.{sign_number, sign, sign_by, comma_by, first_at, node}
+use Rattle.lara_syntax.specs.Reading.{sign, sign_by, comma_by}
 use Rattle.lara_syntax.specs.Grammar.{Word, word, Mark, Named, Lit, number, KeyTyped, nat, ValTyped, count, Many, none, more, CommaThen, comma_then, Commas, commas, Maybe, nothing}
 use Rattle.lara_syntax.proofs.Turns.{TakesOne, read_of, pair_is, value_is, rest_is, err_ok, none_some, list_step}
 use Rattle.lara_syntax.proofs.Readers.{bind_ok}
+use Rattle.lara_syntax.specs.WordTexts.{same_sign}
+use Rattle.lara_syntax.proofs.WordTextLaws.{same_sign-is}
 
 -- ---- how a read ends
 
@@ -51,60 +52,14 @@ word_taken w (t ∷ ts) at u h e =
     let same : t.lexeme ≡ w = some_is t.lexeme w h in
     give_to (λ a q. Word w a (t ∷ ts) q) t.at ts at u e (subst (λ (l : Lexeme). Word l t.at (t ∷ ts) ts) same (word t.at t.len ts))
 
-pub sign_of : ℕ → Sign
-sign_of zero = Is
-sign_of (suc zero) = Semi
-sign_of (suc (suc zero)) = Comma
-sign_of (suc (suc (suc zero))) = Colon
-sign_of (suc (suc (suc (suc zero)))) = OpenBracket
-sign_of (suc (suc (suc (suc (suc zero))))) = CloseBracket
-sign_of (suc (suc (suc (suc (suc (suc zero)))))) = OpenBrace
-sign_of (suc (suc (suc (suc (suc (suc (suc zero))))))) = CloseBrace
-sign_of (suc (suc (suc (suc (suc (suc (suc (suc zero)))))))) = Open
-sign_of (suc (suc (suc (suc (suc (suc (suc (suc (suc zero))))))))) = Close
-sign_of (suc (suc (suc (suc (suc (suc (suc (suc (suc (suc zero)))))))))) = Plus
-sign_of (suc (suc (suc (suc (suc (suc (suc (suc (suc (suc (suc zero))))))))))) = Times
-sign_of (suc (suc (suc (suc (suc (suc (suc (suc (suc (suc (suc (suc zero)))))))))))) = PlusPlus
-sign_of (suc (suc (suc (suc (suc (suc (suc (suc (suc (suc (suc (suc (suc zero))))))))))))) = Equal
-sign_of (suc (suc (suc (suc (suc (suc (suc (suc (suc (suc (suc (suc (suc (suc zero)))))))))))))) = NotEqual
-sign_of (suc (suc (suc (suc (suc (suc (suc (suc (suc (suc (suc (suc (suc (suc (suc zero))))))))))))))) = Less
-sign_of (suc (suc (suc (suc (suc (suc (suc (suc (suc (suc (suc (suc (suc (suc (suc (suc zero)))))))))))))))) = LessEqual
-sign_of (suc (suc (suc (suc (suc (suc (suc (suc (suc (suc (suc (suc (suc (suc (suc (suc (suc zero))))))))))))))))) = Greater
-sign_of n = GreaterEqual
-
-pub sign_back : (m : Sign) → sign_of (sign_number m) ≡ m
-unfolding sign_of
-sign_back Is = refl
-sign_back Semi = refl
-sign_back Comma = refl
-sign_back Colon = refl
-sign_back OpenBracket = refl
-sign_back CloseBracket = refl
-sign_back OpenBrace = refl
-sign_back CloseBrace = refl
-sign_back Open = refl
-sign_back Close = refl
-sign_back Plus = refl
-sign_back Times = refl
-sign_back PlusPlus = refl
-sign_back Equal = refl
-sign_back NotEqual = refl
-sign_back Less = refl
-sign_back LessEqual = refl
-sign_back Greater = refl
-sign_back GreaterEqual = refl
-
-pub sign_same : (m k : Sign) → eqb (sign_number m) (sign_number k) ≡ true → k ≡ m
-sign_same m k e = sym (sym (sign_back m) ∙ ap sign_of (eqb-true _ _ e) ∙ sign_back k)
-
 pub tested : (b : Bool) (ts : Items) (x : ℕ) (u : Items) → cond b skip (refuse Unexpected) ts ≡ read_of x u → (b ≡ true) × (skip ts ≡ read_of x u)
 tested true ts x u e = (refl, e)
 tested false ts x u e = absurd (err_ok {A = ℕ} _ (x, u) e)
 
 pub sign_when : (m : Sign) (o : Option Lexeme) (ts : Items) (x : ℕ) (u : Items) → head_word ts ≡ o → sign_by m o ts ≡ read_of x u → Mark m x ts u
 sign_when m (Some (lex.Sign k)) ts x u h e =
-    let t = tested (eqb (sign_number m) (sign_number k)) ts x u e in
-    word_taken (lex.Sign m) ts x u (h ∙ ap (λ (j : Sign). Some (lex.Sign j)) (sign_same m k t.0)) t.1
+    let t = tested (same_sign m k) ts x u e in
+    word_taken (lex.Sign m) ts x u (h ∙ ap (λ (j : Sign). Some (lex.Sign j)) (same_sign-is m k t.0)) t.1
 sign_when m w ts x u h e = absurd (err_ok {A = ℕ} _ (x, u) e)
 
 pub sign_sound : (m : Sign) (ts : Items) (x : ℕ) (u : Items) → sign m ts ≡ read_of x u → Mark m x ts u

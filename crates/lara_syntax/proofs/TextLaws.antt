@@ -1,11 +1,10 @@
 -- Each byte of a text's content takes a byte of the script.
 use Rattle.std.proofs.Common.{◌≡◌, ℕ, ◌+◌, ◌≤◌, ◌<◌, ◌*◌, List, [], ◌∷◌, ◌++◌, zero, suc, length, refl, arith, Bool, true, false, Some, None, Option, cond, ap, Ok, Err, sym, ◌∙◌, ltb, length-append}
+use Rattle.lara_data.specs.declared.refusal.Kind.{Kind}
 use Rattle.lara_data.specs.declared.refusal.Kind.TheVariants.{BadText}
-use Rattle.lara_syntax.specs.ScanSteps.{Bytes, Scan, gather, gather_within, gather_by, Fails}
+use Rattle.lara_syntax.specs.ScanSteps.{Bytes, Scan, gather, gather_within, gather_by}
 use Rattle.lara_syntax.specs.TokenTexts.{hex_value, two_digits, hex_byte, escape, content_byte, content}
-use Rattle.lara_syntax.specs.declared.scan_fault.ScanFault.{ScanFault}
-use Rattle.lara_syntax.specs.declared.scan_fault.ScanFault.TheVariants as faults
-use Rattle.lara_syntax.specs.TokenWords.{text_by, text_word, RefusesContent}
+use Rattle.lara_syntax.specs.TokenWords.{text_by, text_word}
 use Rattle.lara_syntax.proofs.Listed.{gathered}
 use Rattle.lara_syntax.proofs.Gather.{gather-some, gather-fail, TakesOne, scan_of, rest_is, err_ok}
 
@@ -62,10 +61,9 @@ content-shorter ts cs u e = closed (suc (length ts)) [] ts cs u e
 
 -- ---- a refusal before the end is no text
 
-pub content-fails : (bs acc ts : Bytes) (e : ScanFault) → gather content_byte acc ts ≡ content bs → Fails e (content_byte ts) → RefusesContent bs e
+pub content-fails : (bs acc ts : Bytes) (k : Kind) → gather content_byte acc ts ≡ content bs → content_byte ts ≡ Err k → text_word bs ≡ Err BadText
 unfolding text_word
-content-fails bs acc ts faults.Memory g f = tt
-content-fails bs acc ts (faults.Bad k) g f = ap text_by (sym g ∙ gather-fail content_byte content_byte-one acc ts (faults.Bad k) f)
+content-fails bs acc ts k g e = ap text_by (sym g ∙ gather-fail content_byte content_byte-one acc ts k e)
 
 long_by : (acc ts : Bytes) → 1024 < length acc → (r : Scan (List ℕ)) → gather content_byte acc ts ≡ r → text_by r ≡ Err BadText
 long_by acc ts lt (Ok (cs, u)) e =

@@ -22,6 +22,19 @@ pub record Goes {A : Type 0} (F : Option Lexeme → Type 0) (p : Reader A) (ts :
   pub x : A
   pub on : (v : Items) → F (head_word v) → p (before ++ (more ++ v)) ≡ read_of x v
 
+-- other words in front of those that can go on
+pub goes_behind : {A : Type 0} (F : Option Lexeme → Type 0) (p q : Reader A) (front ts us : Items) (d : Stop) → ts ≡ front ++ us → (g : Goes F q us d) → ((v : Items) → F (head_word v) → p (front ++ (g.before ++ (g.more ++ v))) ≡ read_of g.x v) → Goes F p ts d
+goes_behind F p q front ts us d e g on = record {
+  before = front ++ g.before;
+  bad = g.bad;
+  parts = e ∙ ap (λ (r : Items). front ++ r) g.parts ∙ sym (append_assoc front g.before g.bad);
+  place = g.place;
+  more = g.more;
+  spelled = g.spelled;
+  x = g.x;
+  on = λ v after. ap p (append_assoc front g.before (g.more ++ v)) ∙ on v after;
+}
+
 -- F: what may follow. It ends there whatever of F is next; it reads some words; where it stops, the words before can go on.
 pub record IsViable {A : Type 0} (F : Option Lexeme → Type 0) (p : Reader A) : Type 0 where
   pub stays : (before u v : Items) (x : A) → p (before ++ u) ≡ read_of x u → F (head_word v) → p (before ++ v) ≡ read_of x v
@@ -74,20 +87,12 @@ bind_goes F G p f ip vp vf starts ts d e =
       | inr h ↦
           let a = ip.front ts h.0 h.1 h.2 in
           let g = (vf h.0).goes h.1 d h.3 in
-          record {
-            before = a.0 ++ g.before;
-            bad = g.bad;
-            parts = a.1 ∙ ap (λ (q : Items). a.0 ++ q) g.parts ∙ sym (append_assoc a.0 g.before g.bad);
-            place = g.place;
-            more = g.more;
-            spelled = g.spelled;
-            x = g.x;
-            on = λ v after.
-                let k : f h.0 (g.before ++ (g.more ++ v)) ≡ read_of g.x v = g.on v after in
-                let w : G (head_word (g.before ++ (g.more ++ v))) = starts h.0 (g.before ++ (g.more ++ v)) g.x v k after in
-                let first : p (a.0 ++ (g.before ++ (g.more ++ v))) ≡ read_of h.0 (g.before ++ (g.more ++ v)) = vp.stays a.0 h.1 (g.before ++ (g.more ++ v)) h.0 (ap p (sym a.1) ∙ h.2) w in
-                ap (p >>= f) (append_assoc a.0 g.before (g.more ++ v)) ∙ both p f a.0 (g.before ++ (g.more ++ v)) v h.0 g.x first k;
-          }
+          goes_behind F (p >>= f) (f h.0) a.0 ts h.1 d a.1 g (λ v after.
+          let rest = g.before ++ (g.more ++ v) in
+          let k : f h.0 rest ≡ read_of g.x v = g.on v after in
+          let w : G (head_word rest) = starts h.0 rest g.x v k after in
+          let first : p (a.0 ++ rest) ≡ read_of h.0 rest = vp.stays a.0 h.1 rest h.0 (ap p (sym a.1) ∙ h.2) w in
+          both p f a.0 rest v h.0 g.x first k)
     ]
 
 pub viable_bind : {A B : Type 0} (F G : Option Lexeme → Type 0) (p : Reader A) (f : A → Reader B) → IsReader p → ((x : A) → IsReader (f x)) → IsViable G p → ((x : A) → IsViable F (f x)) → ((x : A) → Starts F G (f x)) → IsViable F (p >>= f)

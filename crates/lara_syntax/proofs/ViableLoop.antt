@@ -1,12 +1,12 @@
 -- The same of a list of items: what stands before the word at which it stops can go on.
-use Rattle.std.proofs.Common.{◌≡◌, ◌<◌, ℕ, zero, suc, List, [], ◌∷◌, ◌++◌, length, Option, Some, None, Ok, Err, refl, sym, ap, subst, ◌∙◌, append_assoc, arith}
+use Rattle.std.proofs.Common.{◌≡◌, ◌<◌, ℕ, zero, suc, List, [], ◌∷◌, ◌++◌, length, Option, Some, None, Ok, Err, refl, sym, ap, subst, ◌∙◌, arith}
 use Rattle.lara_syntax.specs.declared.item.Lexeme.{Lexeme}
 use Rattle.lara_syntax.specs.declared.fault.Stop.{Stop}
 use Rattle.lara_syntax.specs.declared.fault.Fault.TheVariants as faults
 use Rattle.lara_syntax.specs.Steps.{Items, Read, Reader, ◌>>=◌, give, peek, list_from, head_word}
 use Rattle.lara_syntax.proofs.Turns.{TakesOne, read_of, erred, rest_is, value_is, err_ok, none_some, list-some, list-none, list-fail}
 use Rattle.lara_syntax.proofs.Readers.{IsReader, split, longer, regroup, ok_err, reads_list, stop_is}
-use Rattle.lara_syntax.proofs.Viable.{Goes, IsViable, IsCase, viable_choice}
+use Rattle.lara_syntax.proofs.Viable.{Goes, goes_behind, IsViable, IsCase, viable_choice}
 
 -- what gives an item gives it whatever of G is next
 abbrev pub Keeps : {A : Type 0} → (Option Lexeme → Type 0) → Reader (Option A) → Type 0
@@ -74,21 +74,12 @@ goes_by F G item ii n next (Ok (Some x, m)) acc ts d h lt e =
     let a = (ii.reader acc).front ts (Some x) m h in
     let shorter = (ii.one acc).shorter ts x m h in
     let g = next (acc ++ x ∷ []) m d (omega (arith, shorter)) (sym (list-some item ii.one acc ts x m h) ∙ e) in
-    record {
-      before = a.0 ++ g.before;
-      bad = g.bad;
-      parts = a.1 ∙ ap (λ (q : Items). a.0 ++ q) g.parts ∙ sym (append_assoc a.0 g.before g.bad);
-      place = g.place;
-      more = g.more;
-      spelled = g.spelled;
-      x = g.x;
-      on = λ v after.
-          let rest = g.before ++ (g.more ++ v) in
-          let k : list_from item (acc ++ x ∷ []) rest ≡ read_of g.x v = g.on v after in
-          let w = loop_starts F G item ii (acc ++ x ∷ []) g.x rest v k after in
-          let first : item acc (a.0 ++ rest) ≡ read_of (Some x) rest = ii.keeps acc a.0 m rest x (ap (item acc) (sym a.1) ∙ h) w in
-          ap (list_from item acc) (append_assoc a.0 g.before (g.more ++ v)) ∙ list-some item ii.one acc (a.0 ++ rest) x rest first ∙ k;
-    }
+    goes_behind F (list_from item acc) (list_from item (acc ++ x ∷ [])) a.0 ts m d a.1 g (λ v after.
+    let rest = g.before ++ (g.more ++ v) in
+    let k : list_from item (acc ++ x ∷ []) rest ≡ read_of g.x v = g.on v after in
+    let w = loop_starts F G item ii (acc ++ x ∷ []) g.x rest v k after in
+    let first : item acc (a.0 ++ rest) ≡ read_of (Some x) rest = ii.keeps acc a.0 m rest x (ap (item acc) (sym a.1) ∙ h) w in
+    list-some item ii.one acc (a.0 ++ rest) x rest first ∙ k)
 goes_by {A = A} F G item ii n next (Err c) acc ts d h lt e =
     let same : c ≡ d = stop_is {A = List A} c d (sym (list-fail item ii.one acc ts (faults.Stopped c) h) ∙ e) in
     let g = (ii.viable acc).goes ts d (h ∙ ap (λ (s : Stop). erred s) same) in

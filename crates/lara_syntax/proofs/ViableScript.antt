@@ -12,7 +12,7 @@ use Rattle.lara_syntax.specs.declared.ast.AstStatement.TheVariants as st
 use Rattle.lara_syntax.specs.Limits.{Limits}
 use Rattle.lara_syntax.specs.Steps.{Items, Reader, ◌>>=◌, give, head_word}
 use Rattle.lara_syntax.specs.Reading as r
-use Rattle.lara_syntax.specs.Reading.{sign, sign_by, sign_number, node, first_at, Counted}
+use Rattle.lara_syntax.specs.Reading.{sign}
 use Rattle.lara_syntax.proofs.Turns.{TakesOne, read_of, rest_is, err_ok, none_some}
 use Rattle.lara_syntax.proofs.Readers.{IsReader, reads_bind, reads_give, skip_shortens}
 use Rattle.lara_syntax.proofs.RuleReaders.{sign-reads, name-reads, some_names-reads, table-reads, some_order-reads, statement-reads, statement-one, assign_end, assign_end-reads, assign_rest, assign_rest-reads, print_rest, print_rest-reads, next_statement-one, has_room, next_behind, next_behind-one, next_behind-reads}

@@ -14,7 +14,7 @@ use Rattle.lara_syntax.specs.declared.ast.AstNode.{AstNode}
 use Rattle.lara_syntax.specs.declared.ast.AstOp.TheVariants as op
 use Rattle.lara_syntax.specs.Steps.{Items, Reader, ◌>>=◌, give, skip, items_from, head_word}
 use Rattle.lara_syntax.specs.Reading as r
-use Rattle.lara_syntax.specs.Reading.{sign, sign_by, sign_number, node, first_at}
+use Rattle.lara_syntax.specs.Reading.{sign, node}
 use Rattle.lara_syntax.proofs.Turns.{TakesOne, read_of, rest_is, none_some}
 use Rattle.lara_syntax.proofs.Readers.{IsReader, reads_bind, reads_give, reads_items, skip_shortens}
 use Rattle.lara_syntax.proofs.RuleReaders.{sign-reads, name-reads, key_type-reads, val_type-reads, lit-reads, comma-reads, comma-one, key_col-reads, some_key_cols-reads, val_col-reads, val_cols-reads, table_type-reads, lits-reads, some_lits-reads, entry-reads, entry_here-reads, semi_entry-reads, semi_entry-one, entries_from-reads, some_entries-reads}

@@ -1,5 +1,5 @@
 -- What stands before a refused word can go on: words, and lists of what ends by itself.
-use Rattle.std.proofs.Common.{◌≡◌, ◌<◌, ℕ, List, [], ◌∷◌, length, Option, Some, None, Err, refl, sym, ap, ◌∙◌, arith, Bool, true, false, cond, eqb}
+use Rattle.std.proofs.Common.{◌≡◌, ◌<◌, ℕ, List, [], ◌∷◌, length, Option, Some, None, Err, refl, sym, ap, ◌∙◌, arith, Bool, true, false, cond}
 use Rattle.lara_syntax.specs.declared.item.Item.{Item}
 use Rattle.lara_syntax.specs.declared.item.Lexeme.{Lexeme}
 use Rattle.lara_syntax.specs.declared.item.Lexeme.TheVariants as lex
@@ -16,7 +16,8 @@ use Rattle.lara_syntax.specs.Scripts.{IsSpelled}
 use Rattle.lara_syntax.specs.WordTexts.{keyword_text, sign_text}
 use Rattle.lara_syntax.specs.Steps.{Items, Read, Reader, ◌>>=◌, give, refuse, peek, skip, items_from, head_word}
 use Rattle.lara_syntax.specs.Reading as r
-use Rattle.lara_syntax.specs.Reading.{sign, sign_by, sign_number, node, first_at}
+use Rattle.lara_syntax.specs.WordTexts.{same_sign}
+use Rattle.lara_syntax.specs.Reading.{sign, sign_by}
 use Rattle.lara_syntax.specs.Grammar.{Word, word}
 use Rattle.lara_syntax.proofs.Turns.{read_of, erred, value_is, err_ok}
 use Rattle.lara_syntax.proofs.Readers.{IsReader, reads_bind, reads_give, reads_skip, reads_items, skip_ok, ok_err, bind_ok, longer, skip_shortens}
@@ -101,7 +102,7 @@ case_cond F true p q cp cq = cp
 case_cond F false p q cp cq = cq
 
 pub sign_cases : (F : Option Lexeme → Type 0) (m : Sign) (w : Option Lexeme) → IsCase F (sign_by m w)
-sign_cases F m (Some (lex.Sign k)) = case_cond F (eqb (sign_number m) (sign_number k)) skip (refuse Unexpected) (case_viable F skip (viable_skip F)) (case_refuse F Unexpected)
+sign_cases F m (Some (lex.Sign k)) = case_cond F (same_sign m k) skip (refuse Unexpected) (case_viable F skip (viable_skip F)) (case_refuse F Unexpected)
 sign_cases F m w = case_refuse F Unexpected
 
 pub sign_takes : (m : Sign) → Takes (sign m)

@@ -11,7 +11,7 @@ use Rattle.lara_syntax.specs.declared.item.Keyword.TheVariants as key
 use Rattle.lara_syntax.specs.declared.item.Sign.{Sign}
 use Rattle.lara_syntax.specs.declared.item.Sign.TheVariants as sign
 use Rattle.lara_syntax.specs.ByteClasses.{is_space}
-use Rattle.lara_syntax.specs.WordTexts.{keyword_text, sign_text, all_keywords, all_signs, keyword_among, sign_among, keyword_of, sign_of}
+use Rattle.lara_syntax.specs.WordTexts.{keyword_text, sign_text, all_keywords, all_signs, word_of, keyword_of, sign_of, same_sign}
 
 pub both : (a b : Bool) → (a && b) ≡ true → (a ≡ true) × (b ≡ true)
 both true true e = (refl, refl)
@@ -23,45 +23,45 @@ neither false false e = (refl, refl)
 neither false true e = absurd cc
 neither true b e = absurd cc
 
+-- ---- a word by its text
+
+any_among : {W : Type 0} (text_of : W → List ℕ) (ws : List W) (text : List ℕ) → list_any (λ b. bytes_eq b text) (map text_of ws) ≡ false → word_of text_of ws text ≡ None
+any_among text_of [] text e = refl
+any_among text_of (w ∷ ws) text e = let h = neither (bytes_eq (text_of w) text) _ e in rw h.0 (any_among text_of ws text h.1)
+
+among_any_by : {W : Type 0} (b : Bool) (w : W) (o : Option W) (r : Bool) → (o ≡ None → r ≡ false) → cond b (Some w) o ≡ None → (b || r) ≡ false
+among_any_by true w o r h e = absurd cc
+among_any_by false w o r h e = h e
+
+among_any : {W : Type 0} (text_of : W → List ℕ) (ws : List W) (text : List ℕ) → word_of text_of ws text ≡ None → list_any (λ b. bytes_eq b text) (map text_of ws) ≡ false
+among_any text_of [] text e = refl
+among_any text_of (w ∷ ws) text e = among_any_by (bytes_eq (text_of w) text) w (word_of text_of ws text) _ (among_any text_of ws text) e
+
+some_is : {W : Type 0} (x y : W) → Some x ≡ Some y → x ≡ y
+some_is x y e = cc
+
+written_by : {W : Type 0} (text_of : W → List ℕ) (text : List ℕ) (b : Bool) (w : W) (o : Option W) (v : W) → bytes_eq (text_of w) text ≡ b → (o ≡ Some v → text_of v ≡ text) → cond b (Some w) o ≡ Some v → text_of v ≡ text
+written_by text_of text true w o v d h e = ap text_of (sym (some_is w v e)) ∙ (bytes_eq-Decides (text_of w) text).0 d
+written_by text_of text false w o v d h e = h e
+
+-- it is written so
+word_of-text : {W : Type 0} (text_of : W → List ℕ) (ws : List W) (text : List ℕ) (v : W) → word_of text_of ws text ≡ Some v → text_of v ≡ text
+word_of-text text_of [] text v e = absurd cc
+word_of-text text_of (w ∷ ws) text v e = written_by text_of text (bytes_eq (text_of w) text) w (word_of text_of ws text) v refl (word_of-text text_of ws text v) e
+
 -- ---- keywords
-
-abbrev Same : List ℕ → List ℕ → Bool
-Same text w = bytes_eq w text
-
-any_among : (ks : List Keyword) (text : List ℕ) → list_any (λ w. bytes_eq w text) (map keyword_text ks) ≡ false → keyword_among ks text ≡ None
-any_among [] text e = refl
-any_among (k ∷ ks) text e = let h = neither (bytes_eq (keyword_text k) text) _ e in rw h.0 (any_among ks text h.1)
-
-among_any_by : (b : Bool) (k : Keyword) (o : Option Keyword) (r : Bool) → (o ≡ None → r ≡ false) → cond b (Some k) o ≡ None → (b || r) ≡ false
-among_any_by true k o r h e = absurd cc
-among_any_by false k o r h e = h e
-
-among_any : (ks : List Keyword) (text : List ℕ) → keyword_among ks text ≡ None → list_any (λ w. bytes_eq w text) (map keyword_text ks) ≡ false
-among_any [] text e = refl
-among_any (k ∷ ks) text e = among_any_by (bytes_eq (keyword_text k) text) k (keyword_among ks text) _ (among_any ks text) e
 
 pub keyword_of-none : (text : List ℕ) → is_keyword text ≡ false → keyword_of text ≡ None
 unfolding is_keyword keyword_of
-keyword_of-none text e = any_among all_keywords text e
+keyword_of-none text e = any_among keyword_text all_keywords text e
 
 pub none-keyword : (text : List ℕ) → keyword_of text ≡ None → is_keyword text ≡ false
 unfolding is_keyword keyword_of
-none-keyword text e = among_any all_keywords text e
-
-some_is : (x y : Keyword) → Some x ≡ Some y → x ≡ y
-some_is x y e = cc
-
-keyword_by : (text : List ℕ) (b : Bool) (k : Keyword) (o : Option Keyword) (j : Keyword) → bytes_eq (keyword_text k) text ≡ b → (o ≡ Some j → keyword_text j ≡ text) → cond b (Some k) o ≡ Some j → keyword_text j ≡ text
-keyword_by text true k o j d h e = ap keyword_text (sym (some_is k j e)) ∙ (bytes_eq-Decides (keyword_text k) text).0 d
-keyword_by text false k o j d h e = h e
-
-keyword_among-is : (ks : List Keyword) (text : List ℕ) (j : Keyword) → keyword_among ks text ≡ Some j → keyword_text j ≡ text
-keyword_among-is [] text j e = absurd cc
-keyword_among-is (k ∷ ks) text j e = keyword_by text (bytes_eq (keyword_text k) text) k (keyword_among ks text) j refl (keyword_among-is ks text j) e
+none-keyword text e = among_any keyword_text all_keywords text e
 
 pub keyword_of-is : (text : List ℕ) (j : Keyword) → keyword_of text ≡ Some j → keyword_text j ≡ text
 unfolding keyword_of
-keyword_of-is text j e = keyword_among-is all_keywords text j e
+keyword_of-is text j e = word_of-text keyword_text all_keywords text j e
 
 -- a name as to its bytes and its length
 abbrev pub is_word : List ℕ → Bool
@@ -80,25 +80,20 @@ keyword_of-text k = refl
 
 -- ---- signs
 
-some_sign : (x y : Sign) → Some x ≡ Some y → x ≡ y
-some_sign x y e = cc
-
-sign_by : (text : List ℕ) (b : Bool) (k : Sign) (o : Option Sign) (j : Sign) → bytes_eq (sign_text k) text ≡ b → (o ≡ Some j → sign_text j ≡ text) → cond b (Some k) o ≡ Some j → sign_text j ≡ text
-sign_by text true k o j d h e = ap sign_text (sym (some_sign k j e)) ∙ (bytes_eq-Decides (sign_text k) text).0 d
-sign_by text false k o j d h e = h e
-
-sign_among-is : (ks : List Sign) (text : List ℕ) (j : Sign) → sign_among ks text ≡ Some j → sign_text j ≡ text
-sign_among-is [] text j e = absurd cc
-sign_among-is (k ∷ ks) text j e = sign_by text (bytes_eq (sign_text k) text) k (sign_among ks text) j refl (sign_among-is ks text j) e
-
 pub sign_of-is : (text : List ℕ) (j : Sign) → sign_of text ≡ Some j → sign_text j ≡ text
 unfolding sign_of
-sign_of-is text j e = sign_among-is all_signs text j e
+sign_of-is text j e = word_of-text sign_text all_signs text j e
 
 pub sign_of-text : (k : Sign) → sign_of (sign_text k) ≡ Some k
 unfolding sign_of
 sign_of-text sign.Is = refl
 sign_of-text k = refl
+
+pub same_sign-is : (m k : Sign) → same_sign m k ≡ true → k ≡ m
+same_sign-is m k e = some_is k m (sym (sign_of-text k) ∙ ap sign_of (sym ((bytes_eq-Decides (sign_text m) (sign_text k)).0 e)) ∙ sign_of-text m)
+
+pub same_sign-refl : (m : Sign) → same_sign m m ≡ true
+same_sign-refl m = (bytes_eq-Decides (sign_text m) (sign_text m)).1 refl
 
 -- no other token and no blank begins with the byte
 abbrev pub begins_sign : ℕ → Bool

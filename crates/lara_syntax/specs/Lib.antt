@@ -6,6 +6,7 @@ pub mod Parsed
 pub mod Reading
 pub mod Readings
 pub mod Refusals
+pub mod Returns
 pub mod ScanSteps
 pub mod ScannedSteps
 pub mod Scripts

@@ -1,5 +1,5 @@
 -- Reading from left to right: each rule of the grammar by the word that is next.
-use Rattle.std.specs.Prelude.{ℕ, zero, suc, ◌+◌, Bool, true, false, nat_lt, List, [], ◌∷◌, length, Option, Some, None, ◌==◌, if◌then◌else◌}
+use Rattle.std.specs.Prelude.{ℕ, zero, suc, ◌+◌, Bool, true, false, nat_lt, List, [], ◌∷◌, length, Option, Some, None, if◌then◌else◌}
 use Rattle.lara_key.specs.declared.key.KeyType.{KeyType}
 use Rattle.lara_key.specs.declared.key.KeyType.TheVariants as key_type_of
 use Rattle.lara_semiring.specs.declared.value.ValType.{ValType}
@@ -8,7 +8,7 @@ use Rattle.lara_syntax.specs.declared.item.Lexeme.{Lexeme}
 use Rattle.lara_syntax.specs.declared.item.Lexeme.TheVariants as lex
 use Rattle.lara_syntax.specs.declared.item.Keyword.TheVariants as key
 use Rattle.lara_syntax.specs.declared.item.Sign.{Sign}
-use Rattle.lara_syntax.specs.declared.item.Sign.TheVariants.{Is, Semi, Comma, Colon, OpenBracket, CloseBracket, OpenBrace, CloseBrace, Open, Close, Plus, Times, PlusPlus, Equal, NotEqual, Less, LessEqual, Greater, GreaterEqual}
+use Rattle.lara_syntax.specs.declared.item.Sign.TheVariants.{Is, Semi, Comma, Colon, OpenBracket, CloseBracket, OpenBrace, CloseBrace, Open, Close}
 use Rattle.lara_data.specs.declared.refusal.Kind.{Kind}
 use Rattle.lara_data.specs.declared.refusal.Kind.TheVariants.{Unexpected, TooMany}
 use Rattle.lara_syntax.specs.declared.ast.AstName.{AstName}
@@ -24,34 +24,14 @@ use Rattle.lara_syntax.specs.declared.ast.AstOp.{AstOp}
 use Rattle.lara_syntax.specs.declared.ast.AstOp.TheVariants as op
 use Rattle.lara_syntax.specs.declared.ast.AstStatement.{AstStatement}
 use Rattle.lara_syntax.specs.declared.ast.AstStatement.TheVariants as st
+use Rattle.lara_syntax.specs.WordTexts.{same_sign}
 use Rattle.lara_syntax.specs.Limits.{Limits}
 use Rattle.lara_syntax.specs.Steps.{Reader, ◌>>=◌, give, refuse, peek, skip, items_from, list_from}
 
 -- ---- one word
 
-abbrev pub sign_number : Sign → ℕ
-sign_number Is = 0
-sign_number Semi = 1
-sign_number Comma = 2
-sign_number Colon = 3
-sign_number OpenBracket = 4
-sign_number CloseBracket = 5
-sign_number OpenBrace = 6
-sign_number CloseBrace = 7
-sign_number Open = 8
-sign_number Close = 9
-sign_number Plus = 10
-sign_number Times = 11
-sign_number PlusPlus = 12
-sign_number Equal = 13
-sign_number NotEqual = 14
-sign_number Less = 15
-sign_number LessEqual = 16
-sign_number Greater = 17
-sign_number GreaterEqual = 18
-
 abbrev pub sign_by : Sign → Option Lexeme → Reader ℕ
-sign_by m (Some (lex.Sign k)) = if sign_number m == sign_number k then skip else refuse Unexpected
+sign_by m (Some (lex.Sign k)) = if same_sign m k then skip else refuse Unexpected
 sign_by m w = refuse Unexpected
 
 unfoldable pub sign : Sign → Reader ℕ

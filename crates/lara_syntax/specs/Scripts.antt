@@ -1,5 +1,5 @@
 -- The script that bytes are, and what words begin one.
-use Rattle.std.specs.Prelude.{◌≡◌, ℕ, List, [], ◌∷◌, ◌++◌, None}
+use Rattle.std.specs.Prelude.{ℕ, List, [], ◌∷◌, ◌++◌, length, None}
 use Rattle.lara_syntax.specs.declared.ast.Ast.{Ast}
 use Rattle.lara_syntax.specs.declared.ast.AstStatement.{AstStatement}
 use Rattle.lara_syntax.specs.declared.item.Lexeme.{Lexeme}
@@ -7,11 +7,13 @@ use Rattle.lara_syntax.specs.Limits.{Limits, most}
 use Rattle.lara_syntax.specs.Steps.{Items}
 use Rattle.lara_syntax.specs.Grammar.{Script}
 use Rattle.lara_syntax.specs.Spellings.{Spells}
-use Rattle.lara_syntax.specs.Tokens.{items_of, stop_of}
+use Rattle.lara_syntax.specs.Readings.{Reads}
 
--- the tree stands in the grammar to the words, which are all of the bytes
-abbrev pub Stands : List ℕ → Ast → Type 0
-Stands bytes ast = Script most ast.statements (items_of bytes) × (stop_of bytes ≡ None)
+-- the bytes are read to their end as words to which the tree stands in the grammar
+pub record Stands (bytes : List ℕ) (ast : Ast) : Type 0 where
+  pub items : Items
+  pub reading : Reads (length bytes) bytes items None
+  pub script : Script most ast.statements items
 
 -- some text spells the word
 abbrev pub IsSpelled : Lexeme → Type 0

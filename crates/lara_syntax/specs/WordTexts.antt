@@ -1,5 +1,6 @@
 -- How keywords and signs are written.
-use Rattle.std.specs.Prelude.{ℕ, List, [], ◌∷◌, codes, Option, Some, None, if◌then◌else◌}
+use Rattle.std.specs.Prelude.{ℕ, Bool, List, [], ◌∷◌, codes, Option}
+use Rattle.std.specs.List.{find}
 use Rattle.std.specs.Str.{bytes_eq}
 use Rattle.lara_syntax.specs.declared.item.Keyword.{Keyword}
 use Rattle.lara_syntax.specs.declared.item.Keyword.TheVariants as key
@@ -74,18 +75,18 @@ all_keywords = key.Agg ∷ key.And ∷ key.Apply ∷ key.As ∷ key.By ∷ key.C
 abbrev pub all_signs : List Sign
 all_signs = sign.Is ∷ sign.Semi ∷ sign.Comma ∷ sign.Colon ∷ sign.OpenBracket ∷ sign.CloseBracket ∷ sign.OpenBrace ∷ sign.CloseBrace ∷ sign.Open ∷ sign.Close ∷ sign.Plus ∷ sign.Times ∷ sign.PlusPlus ∷ sign.Equal ∷ sign.NotEqual ∷ sign.Less ∷ sign.LessEqual ∷ sign.Greater ∷ sign.GreaterEqual ∷ []
 
-abbrev pub keyword_among : List Keyword → List ℕ → Option Keyword
-keyword_among [] text = None
-keyword_among (k ∷ ks) text = if bytes_eq (keyword_text k) text then Some k else keyword_among ks text
-
-abbrev pub sign_among : List Sign → List ℕ → Option Sign
-sign_among [] text = None
-sign_among (s ∷ ss) text = if bytes_eq (sign_text s) text then Some s else sign_among ss text
+-- the first of a list that is written so
+abbrev pub word_of : {W : Type 0} → (W → List ℕ) → List W → List ℕ → Option W
+word_of text_of words text = find (λ w. bytes_eq (text_of w) text) words
 
 -- the keyword that is written so
 unfoldable pub keyword_of : List ℕ → Option Keyword
-keyword_of text = keyword_among all_keywords text
+keyword_of text = word_of keyword_text all_keywords text
 
 -- the sign that is written so
 unfoldable pub sign_of : List ℕ → Option Sign
-sign_of text = sign_among all_signs text
+sign_of text = word_of sign_text all_signs text
+
+-- whether two signs are one, which their texts tell
+abbrev pub same_sign : Sign → Sign → Bool
+same_sign a b = bytes_eq (sign_text a) (sign_text b)

@@ -1,6 +1,6 @@
 //! Why the words of a script were not read.
 ghost use Rattle.std.specs.Prelude.{◌≡◌};
-ghost use Rattle.lara_syntax.specs.declared.fault.Fault.TheVariants.{Memory};
+ghost use Rattle.lara_syntax.specs.declared.fault.Fault.TheVariants.{Memory, Stopped};
 
 use lara_data::Kind;
 use std::alloc::{AllocError, AllocFailed};
@@ -16,6 +16,14 @@ pub struct Stop {
 pub enum Fault {
     Memory,
     Stopped(Stop),
+}
+
+impl From<Stop> for Fault {
+    ghost from_gives = { λ stop e. e ≡ Stopped stop };
+
+    fn from(stop: Stop) -> Fault {
+        Fault::Stopped(stop)
+    }
 }
 
 impl From<AllocError> for Fault {

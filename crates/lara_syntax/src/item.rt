@@ -20,7 +20,7 @@ pub enum Lexeme {
 }
 
 /// The words that are no names.
-#[derive(Clone, Copy, Debug, PartialEq, Eq)]
+#[derive(Clone, Copy)]
 pub enum Keyword {
     Agg,
     And,
@@ -64,7 +64,7 @@ pub enum Keyword {
 }
 
 /// The signs, in the order `= ; , : [ ] { } ( ) + * ++ == != < <= > >=`.
-#[derive(Clone, Copy, Debug, PartialEq, Eq)]
+#[derive(Clone, Copy)]
 pub enum Sign {
     Is,
     Semi,

@@ -1,6 +1,6 @@
 //! Why a step of the scanner gives nothing.
 ghost use Rattle.std.specs.Prelude.{◌≡◌};
-ghost use Rattle.lara_syntax.specs.declared.scan_fault.ScanFault.TheVariants.{Memory};
+ghost use Rattle.lara_syntax.specs.declared.scan_fault.ScanFault.TheVariants.{Memory, Bad};
 
 use lara_data::Kind;
 use std::alloc::{AllocError, AllocFailed};
@@ -9,6 +9,14 @@ use std::alloc::{AllocError, AllocFailed};
 pub enum ScanFault {
     Memory,
     Bad(Kind),
+}
+
+impl From<Kind> for ScanFault {
+    ghost from_gives = { λ kind e. e ≡ Bad kind };
+
+    fn from(kind: Kind) -> ScanFault {
+        ScanFault::Bad(kind)
+    }
 }
 
 impl From<AllocError> for ScanFault {

@@ -2,6 +2,7 @@
 ghost use Rattle.std.specs.Prelude.{◌≡◌, take};
 ghost use Rattle.std.specs.List.{list_any};
 ghost use Rattle.lara_base.specs.Names.{starts_name};
+ghost use Rattle.lara_syntax.specs.Returns.{Returns};
 ghost use Rattle.lara_syntax.specs.ScanSteps.{Gives};
 ghost use Rattle.lara_syntax.specs.TokenWords.{name_word, number_word, text_word, one_sign, sign_word, word_at};
 
@@ -38,15 +39,15 @@ fn name_is_next(bytes: &[u8]) -> bool
 }
 
 #[tactic(auto, unfolding(crate::specs::TokenWords::number_word), using(crate::proofs::Numbers::run_laws))]
-fn number_word(bytes: &[u8]) -> Result<(Lexeme, &[u8]), ScanFault>
-    ensures { Gives (λ x. (x.0, x.1.now)) result (number_word bytes.now) }
+fn number_word(bytes: &[u8]) -> Result<(Lexeme, &[u8]), Kind>
+    ensures { Returns (λ x. (x.0, x.1.now)) result (number_word bytes.now) }
 {
     let (digits, rest) = bytes.split_at(digits_len(bytes));
     match number_value(digits) {
-        None => Err(ScanFault::Bad(Kind::BadNumber)),
+        None => Err(Kind::BadNumber),
         Some(n) => {
             if name_is_next(rest) {
-                Err(ScanFault::Bad(Kind::BadNumber))
+                Err(Kind::BadNumber)
             } else {
                 Ok((Lexeme::Number(n), rest))
             }
@@ -70,25 +71,25 @@ fn text_word(alloc: Global, bytes: &[u8]) -> Result<(Lexeme, &[u8]), ScanFault>
 }
 
 #[tactic(auto, unfolding(crate::specs::TokenWords::one_sign))]
-fn one_sign(bytes: &[u8]) -> Result<(Lexeme, &[u8]), ScanFault>
-    ensures { Gives (λ x. (x.0, x.1.now)) result (one_sign bytes.now) }
+fn one_sign(bytes: &[u8]) -> Result<(Lexeme, &[u8]), Kind>
+    ensures { Returns (λ x. (x.0, x.1.now)) result (one_sign bytes.now) }
 {
     let Some((a, rest)) = next(bytes) else {
-        return Err(ScanFault::Bad(Kind::BadByte));
+        return Err(Kind::BadByte);
     };
     match sign_of(&[a]) {
         Some(sign) => Ok((Lexeme::Sign(sign), rest)),
-        None => Err(ScanFault::Bad(Kind::BadByte)),
+        None => Err(Kind::BadByte),
     }
 }
 
 // The longest sign in front.
 #[tactic(auto, unfolding(crate::specs::TokenWords::sign_word))]
-fn sign_word(bytes: &[u8]) -> Result<(Lexeme, &[u8]), ScanFault>
-    ensures { Gives (λ x. (x.0, x.1.now)) result (sign_word bytes.now) }
+fn sign_word(bytes: &[u8]) -> Result<(Lexeme, &[u8]), Kind>
+    ensures { Returns (λ x. (x.0, x.1.now)) result (sign_word bytes.now) }
 {
     let Some((a, behind)) = next(bytes) else {
-        return Err(ScanFault::Bad(Kind::BadByte));
+        return Err(Kind::BadByte);
     };
     let Some((b, rest)) = next(behind) else {
         return one_sign(bytes);
@@ -110,10 +111,10 @@ pub fn word_at(alloc: Global, bytes: &[u8]) -> Result<(Lexeme, &[u8]), ScanFault
     if starts_name(b) {
         name_word(alloc, bytes)
     } else if b.is_ascii_digit() {
-        number_word(bytes)
+        Ok(number_word(bytes)?)
     } else if b == b'"' {
         text_word(alloc, rest)
     } else {
-        sign_word(bytes)
+        Ok(sign_word(bytes)?)
     }
 }

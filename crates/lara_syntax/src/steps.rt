@@ -1,7 +1,8 @@
 //! One word from the front.
 ghost use Rattle.std.specs.Prelude.{◌≡◌, ◌∷◌, ◌+◌, ◌≤◌, ◌<◌, [], MatchOption, length, IfOk};
+ghost use Rattle.lara_syntax.specs.Returns.{Returns};
 ghost use Rattle.lara_syntax.specs.Steps.{Gives};
-ghost use Rattle.lara_syntax.specs.Reading.{sign_number, sign, name};
+ghost use Rattle.lara_syntax.specs.Reading.{sign, name};
 
 use crate::ast::AstName;
 use crate::fault::{Fault, Stop};
@@ -21,52 +22,26 @@ pub fn next(items: &[Item]) -> Option<(&Item, &[Item])>
 }
 
 // Stops at the next word.
-pub fn stopped(items: &[Item], kind: Kind) -> Fault
-    ensures { result ≡ Fault.Stopped (record { left = length items.now; kind = kind }) }
+pub fn stopped(items: &[Item], kind: Kind) -> Stop
+    ensures { result ≡ record { left = length items.now; kind = kind } }
 {
-    Fault::Stopped(Stop {
+    Stop {
         left: items.len(),
         kind,
-    })
-}
-
-fn sign_number(sign: Sign) -> u8
-    ensures { result ≡ sign_number sign }
-{
-    match sign {
-        Sign::Is => 0,
-        Sign::Semi => 1,
-        Sign::Comma => 2,
-        Sign::Colon => 3,
-        Sign::OpenBracket => 4,
-        Sign::CloseBracket => 5,
-        Sign::OpenBrace => 6,
-        Sign::CloseBrace => 7,
-        Sign::Open => 8,
-        Sign::Close => 9,
-        Sign::Plus => 10,
-        Sign::Times => 11,
-        Sign::PlusPlus => 12,
-        Sign::Equal => 13,
-        Sign::NotEqual => 14,
-        Sign::Less => 15,
-        Sign::LessEqual => 16,
-        Sign::Greater => 17,
-        Sign::GreaterEqual => 18,
     }
 }
 
 // A sign, at its place.
 #[tactic(auto, unfolding(crate::specs::Reading::sign))]
-pub fn sign(items: &[Item], wanted: Sign) -> Result<(u32, &[Item]), Fault>
-    ensures { Gives (λ x. (x.0, x.1.now)) result (sign wanted items.now) }
+pub fn sign(items: &[Item], wanted: Sign) -> Result<(u32, &[Item]), Stop>
+    ensures { Returns (λ x. (x.0, x.1.now)) result (sign wanted items.now) }
 {
     let Some((item, rest)) = next(items) else {
         return Err(stopped(items, Kind::Unexpected));
     };
     match &item.lexeme {
         Lexeme::Sign(k) => {
-            if sign_number(wanted) == sign_number(*k) {
+            if wanted.same(*k) {
                 Ok((item.at, rest))
             } else {
                 Err(stopped(items, Kind::Unexpected))
@@ -82,7 +57,7 @@ pub fn name(alloc: Global, items: &[Item]) -> Result<(AstName, &[Item]), Fault>
     ensures { Gives (λ x. (x.0, x.1.now)) result (name items.now) }
 {
     let Some((item, rest)) = next(items) else {
-        return Err(stopped(items, Kind::Unexpected));
+        return Err(stopped(items, Kind::Unexpected).into());
     };
     match &item.lexeme {
         Lexeme::Name(n) => Ok((
@@ -92,6 +67,6 @@ pub fn name(alloc: Global, items: &[Item]) -> Result<(AstName, &[Item]), Fault>
             },
             rest,
         )),
-        _ => Err(stopped(items, Kind::Unexpected)),
+        _ => Err(stopped(items, Kind::Unexpected).into()),
     }
 }

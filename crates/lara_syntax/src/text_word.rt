@@ -1,6 +1,6 @@
 //! The content of a text.
 ghost use Rattle.std.specs.Prelude.{◌≡◌};
-ghost use Rattle.lara_syntax.specs.ScanSteps.{Gives};
+ghost use Rattle.lara_syntax.specs.Returns.{Returns};
 ghost use Rattle.lara_syntax.specs.TokenWords.{GivesContent};
 ghost use Rattle.lara_syntax.specs.TokenTexts.{hex_value, content_byte, escape, hex_byte};
 
@@ -26,48 +26,48 @@ fn hex_value(b: u8) -> Option<u8>
 
 // The byte of two hexadecimal digits.
 #[tactic(auto, unfolding(crate::specs::TokenTexts::hex_byte))]
-fn hex_byte(bytes: &[u8]) -> Result<(Option<u8>, &[u8]), ScanFault>
-    ensures { Gives (λ x. (x.0, x.1.now)) result (hex_byte bytes.now) }
+fn hex_byte(bytes: &[u8]) -> Result<(Option<u8>, &[u8]), Kind>
+    ensures { Returns (λ x. (x.0, x.1.now)) result (hex_byte bytes.now) }
 {
     let Some((h, rest)) = next(bytes) else {
-        return Err(ScanFault::Bad(Kind::BadText));
+        return Err(Kind::BadText);
     };
     let Some((l, rest)) = next(rest) else {
-        return Err(ScanFault::Bad(Kind::BadText));
+        return Err(Kind::BadText);
     };
     let Some(high) = hex_value(h) else {
-        return Err(ScanFault::Bad(Kind::BadText));
+        return Err(Kind::BadText);
     };
     let Some(low) = hex_value(l) else {
-        return Err(ScanFault::Bad(Kind::BadText));
+        return Err(Kind::BadText);
     };
     Ok((Some(high * 16 + low), rest))
 }
 
 // What stands behind a `\`.
 #[tactic(auto, unfolding(crate::specs::TokenTexts::escape))]
-fn escape(bytes: &[u8]) -> Result<(Option<u8>, &[u8]), ScanFault>
-    ensures { Gives (λ x. (x.0, x.1.now)) result (escape bytes.now) }
+fn escape(bytes: &[u8]) -> Result<(Option<u8>, &[u8]), Kind>
+    ensures { Returns (λ x. (x.0, x.1.now)) result (escape bytes.now) }
 {
     let Some((b, rest)) = next(bytes) else {
-        return Err(ScanFault::Bad(Kind::BadText));
+        return Err(Kind::BadText);
     };
     if b == b'"' || b == b'\\' {
         Ok((Some(b), rest))
     } else if b == b'x' {
         hex_byte(rest)
     } else {
-        Err(ScanFault::Bad(Kind::BadText))
+        Err(Kind::BadText)
     }
 }
 
 // One byte of the content, or None behind the closing quote.
 #[tactic(auto, unfolding(crate::specs::TokenTexts::content_byte))]
-fn content_byte(bytes: &[u8]) -> Result<(Option<u8>, &[u8]), ScanFault>
-    ensures { Gives (λ x. (x.0, x.1.now)) result (content_byte bytes.now) }
+fn content_byte(bytes: &[u8]) -> Result<(Option<u8>, &[u8]), Kind>
+    ensures { Returns (λ x. (x.0, x.1.now)) result (content_byte bytes.now) }
 {
     let Some((b, rest)) = next(bytes) else {
-        return Err(ScanFault::Bad(Kind::BadText));
+        return Err(Kind::BadText);
     };
     if b == b'"' {
         Ok((None, rest))
@@ -76,7 +76,7 @@ fn content_byte(bytes: &[u8]) -> Result<(Option<u8>, &[u8]), ScanFault>
     } else if b >= 0x20 && b != 0x7f {
         Ok((Some(b), rest))
     } else {
-        Err(ScanFault::Bad(Kind::BadText))
+        Err(Kind::BadText)
     }
 }
 

@@ -1,6 +1,6 @@
 //! How keywords and signs are written.
 ghost use Rattle.std.specs.Prelude.{◌≡◌};
-ghost use Rattle.lara_syntax.specs.WordTexts.{keyword_text, sign_text, keyword_among, sign_among, keyword_of, sign_of};
+ghost use Rattle.lara_syntax.specs.WordTexts.{keyword_text, sign_text, keyword_of, sign_of, same_sign};
 
 use crate::item::{Keyword, Sign};
 
@@ -142,33 +142,12 @@ impl Sign {
             Sign::GreaterEqual => b">=",
         }
     }
-}
 
-fn keyword_among(keywords: &[Keyword], text: &[u8]) -> Option<Keyword>
-    ensures { result ≡ keyword_among keywords.now text.now }
-{
-    match keywords {
-        [] => None,
-        [first, rest @ ..] => {
-            if first.text() == text {
-                return Some(*first);
-            }
-            keyword_among(rest, text)
-        }
-    }
-}
-
-fn sign_among(signs: &[Sign], text: &[u8]) -> Option<Sign>
-    ensures { result ≡ sign_among signs.now text.now }
-{
-    match signs {
-        [] => None,
-        [first, rest @ ..] => {
-            if first.text() == text {
-                return Some(*first);
-            }
-            sign_among(rest, text)
-        }
+    // Whether two signs are one, which their texts tell.
+    pub fn same(self, other: Sign) -> bool
+        ensures { result ≡ same_sign self other }
+    {
+        self.text() == other.text()
     }
 }
 
@@ -177,7 +156,7 @@ fn sign_among(signs: &[Sign], text: &[u8]) -> Option<Sign>
 pub fn keyword_of(text: &[u8]) -> Option<Keyword>
     ensures { result ≡ keyword_of text.now }
 {
-    keyword_among(&KEYWORDS, text)
+    KEYWORDS.iter().copied().find(|k| k.text() == text)
 }
 
 // The sign that is written so.
@@ -185,5 +164,5 @@ pub fn keyword_of(text: &[u8]) -> Option<Keyword>
 pub fn sign_of(text: &[u8]) -> Option<Sign>
     ensures { result ≡ sign_of text.now }
 {
-    sign_among(&SIGNS, text)
+    SIGNS.iter().copied().find(|s| s.text() == text)
 }

@@ -1,10 +1,11 @@
 //! The columns of a literal: `type = "[" [ key_col { "," key_col } ] ":" val_col { "," val_col } "]"`.
 ghost use Rattle.std.specs.Prelude.{◌≡◌, ◌∷◌, ◌+◌, ◌≤◌, ◌<◌, [], length, IfOk};
+ghost use Rattle.lara_syntax.specs.Returns.{Returns};
 ghost use Rattle.lara_syntax.specs.Steps.{Gives, items_from};
 ghost use Rattle.lara_syntax.specs.Reading.{key_type, val_type, key_col, val_col, comma_key_col, comma_val_col, some_key_cols, val_cols, table_type};
 
 use crate::ast::{AstKeyCol, AstType, AstValCol};
-use crate::fault::Fault;
+use crate::fault::{Fault, Stop};
 use crate::item::{Item, Keyword, Lexeme, Sign};
 use crate::steps::{name, next, sign, stopped};
 use lara_base::List;
@@ -14,8 +15,8 @@ use lara_semiring::ValType;
 use std::alloc::Global;
 
 #[tactic(auto, unfolding(crate::specs::Reading::key_type))]
-fn key_type(items: &[Item]) -> Result<(KeyType, &[Item]), Fault>
-    ensures { Gives (λ x. (x.0, x.1.now)) result (key_type items.now) }
+fn key_type(items: &[Item]) -> Result<(KeyType, &[Item]), Stop>
+    ensures { Returns (λ x. (x.0, x.1.now)) result (key_type items.now) }
 {
     let Some((item, rest)) = next(items) else {
         return Err(stopped(items, Kind::Unexpected));
@@ -27,8 +28,8 @@ fn key_type(items: &[Item]) -> Result<(KeyType, &[Item]), Fault>
 }
 
 #[tactic(auto, unfolding(crate::specs::Reading::val_type))]
-fn val_type(items: &[Item]) -> Result<(ValType, &[Item]), Fault>
-    ensures { Gives (λ x. (x.0, x.1.now)) result (val_type items.now) }
+fn val_type(items: &[Item]) -> Result<(ValType, &[Item]), Stop>
+    ensures { Returns (λ x. (x.0, x.1.now)) result (val_type items.now) }
 {
     let Some((item, rest)) = next(items) else {
         return Err(stopped(items, Kind::Unexpected));

@@ -1,10 +1,11 @@
 //! Values as they are written, and the entries of a literal.
 ghost use Rattle.std.specs.Prelude.{◌≡◌, ◌∷◌, ◌+◌, ◌≤◌, ◌<◌, [], length, IfOk};
+ghost use Rattle.lara_syntax.specs.Returns.{Returns};
 ghost use Rattle.lara_syntax.specs.Steps.{Gives, items_from};
 ghost use Rattle.lara_syntax.specs.Reading.{lit, comma_lit, lits, some_lits, first_at, entry, entry_here, semi_entry, some_entries};
 
 use crate::ast::{AstEntry, AstLit, AstValue};
-use crate::fault::Fault;
+use crate::fault::{Fault, Stop};
 use crate::item::{Item, Lexeme, Sign};
 use crate::steps::{next, sign, stopped};
 use lara_base::List;
@@ -13,8 +14,8 @@ use std::alloc::Global;
 
 // lit = NUMBER
 #[tactic(auto, unfolding(crate::specs::Reading::lit))]
-fn lit(items: &[Item]) -> Result<(AstLit, &[Item]), Fault>
-    ensures { Gives (λ x. (x.0, x.1.now)) result (lit items.now) }
+fn lit(items: &[Item]) -> Result<(AstLit, &[Item]), Stop>
+    ensures { Returns (λ x. (x.0, x.1.now)) result (lit items.now) }
 {
     let Some((item, rest)) = next(items) else {
         return Err(stopped(items, Kind::Unexpected));
@@ -33,8 +34,8 @@ fn lit(items: &[Item]) -> Result<(AstLit, &[Item]), Fault>
 
 // [ "," lit ]
 #[tactic(auto, unfolding(crate::specs::Reading::comma_lit))]
-fn comma_lit(items: &[Item]) -> Result<(Option<AstLit>, &[Item]), Fault>
-    ensures { Gives (λ x. (x.0, x.1.now)) result (comma_lit items.now) }
+fn comma_lit(items: &[Item]) -> Result<(Option<AstLit>, &[Item]), Stop>
+    ensures { Returns (λ x. (x.0, x.1.now)) result (comma_lit items.now) }
 {
     let Some((item, rest)) = next(items) else {
         return Ok((None, items));

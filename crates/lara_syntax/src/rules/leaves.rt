@@ -18,7 +18,7 @@ pub fn leaf(alloc: Global, items: &[Item]) -> Result<(AstNode, &[Item]), Fault>
     ensures { Gives (λ x. (x.0, x.1.now)) result (leaf items.now) }
 {
     let Some((item, rest)) = next(items) else {
-        return Err(stopped(items, Kind::Unexpected));
+        return Err(stopped(items, Kind::Unexpected).into());
     };
     match &item.lexeme {
         Lexeme::Name(_) => {
@@ -40,6 +40,6 @@ pub fn leaf(alloc: Global, items: &[Item]) -> Result<(AstNode, &[Item]), Fault>
             let op = AstOp::Literal(ty, entries);
             Ok((AstNode { at: item.at, op }, rest))
         }
-        _ => Err(stopped(items, Kind::Unexpected)),
+        _ => Err(stopped(items, Kind::Unexpected).into()),
     }
 }

@@ -44,7 +44,7 @@ fn statement(alloc: Global, items: &[Item]) -> Result<(AstStatement, &[Item]), F
     ensures { Gives (λ x. (x.0, x.1.now)) result (statement most items.now) }
 {
     let Some((item, rest)) = next(items) else {
-        return Err(stopped(items, Kind::Unexpected));
+        return Err(stopped(items, Kind::Unexpected).into());
     };
     match &item.lexeme {
         Lexeme::Name(_) => {
@@ -62,7 +62,7 @@ fn statement(alloc: Global, items: &[Item]) -> Result<(AstStatement, &[Item]), F
             let (_, rest) = sign(rest, Sign::Semi)?;
             Ok((AstStatement::Print { at, name, by }, rest))
         }
-        _ => Err(stopped(items, Kind::Unexpected)),
+        _ => Err(stopped(items, Kind::Unexpected).into()),
     }
 }
 
@@ -92,7 +92,7 @@ fn next_statement(
         let (x, rest) = statement(alloc, items)?;
         Ok((Some(x), rest))
     } else {
-        Err(stopped(items, no_room(item)))
+        Err(stopped(items, no_room(item)).into())
     }
 }
 

@@ -1,10 +1,11 @@
 //! Tables, with how many operator words their statement has up to their end.
 ghost use Rattle.std.specs.Prelude.{◌≡◌, ◌∷◌, ◌+◌, ◌≤◌, ◌<◌, [], length, IfOk};
+ghost use Rattle.lara_syntax.specs.Returns.{Returns};
 ghost use Rattle.lara_syntax.specs.Steps.{Gives};
 ghost use Rattle.lara_syntax.specs.Reading.{by_word, operator_word, join_with, union_with, agg_with, inside, operand, table};
 
 use crate::ast::{AstNode, AstOp};
-use crate::fault::Fault;
+use crate::fault::{Fault, Stop};
 use crate::item::{Item, Keyword, Lexeme, Sign};
 use crate::rules::leaves::leaf;
 use crate::rules::names::some_names;
@@ -18,8 +19,8 @@ const MOST_OPERATORS: u32 = 64;
 
 // The place of "by".
 #[tactic(auto, unfolding(crate::specs::Reading::by_word))]
-fn by_word(items: &[Item]) -> Result<(u32, &[Item]), Fault>
-    ensures { Gives (λ x. (x.0, x.1.now)) result (by_word items.now) }
+fn by_word(items: &[Item]) -> Result<(u32, &[Item]), Stop>
+    ensures { Returns (λ x. (x.0, x.1.now)) result (by_word items.now) }
 {
     let Some((item, rest)) = next(items) else {
         return Err(stopped(items, Kind::Unexpected));
@@ -32,8 +33,8 @@ fn by_word(items: &[Item]) -> Result<(u32, &[Item]), Fault>
 
 // The place of an operator word behind so many others.
 #[tactic(auto, unfolding(crate::specs::Reading::operator_word))]
-fn operator_word(items: &[Item], taken: u32) -> Result<(u32, &[Item]), Fault>
-    ensures gives { Gives (λ x. (x.0, x.1.now)) result (operator_word 64 taken items.now) }
+fn operator_word(items: &[Item], taken: u32) -> Result<(u32, &[Item]), Stop>
+    ensures gives { Returns (λ x. (x.0, x.1.now)) result (operator_word 64 taken items.now) }
     ensures room { IfOk result (λ x. taken < 64) }
 {
     if taken < MOST_OPERATORS {
@@ -110,10 +111,10 @@ fn inside(
     ensures { Gives (λ x. ((x.0, x.1), x.2.now)) result (inside 64 levels taken items.now) }
 {
     if levels == 0 {
-        return Err(stopped(items, Kind::TooMany));
+        return Err(stopped(items, Kind::TooMany).into());
     }
     let Some((_, rest)) = next(items) else {
-        return Err(stopped(items, Kind::Unexpected));
+        return Err(stopped(items, Kind::Unexpected).into());
     };
     let (x, taken, rest) = table(alloc, levels - 1, taken, rest)?;
     let (_, rest) = sign(rest, Sign::Close)?;
