@@ -1,4 +1,4 @@
--- Columns by their names.
+-- The columns of what operators make are a table's.
 use Rattle.std.specs.Prelude.{◌≡◌, ◌<◌, ◌+◌, ℕ, Bool, true, false, ◌&&◌, ◌||◌, List, [], ◌∷◌, ◌++◌, take, length}
 use Rattle.std.specs.Bool.{IsTrue}
 use Rattle.std.specs.List.{list_all}
@@ -15,11 +15,6 @@ use Rattle.lara_data.specs.TypeRules.{types_differ, is_none, too_many}
 use Rattle.lara_data.specs.TypeRuleLaws.{join_are_columns, union_are_columns, agg_are_columns}
 use Rattle.lara_data.specs.Sequences.{turned_name}
 
-pub has_names : (keys : List KeyCol) (n : Name) → has (key_names keys) n ≡ has_key n keys
-unfolding has
-has_names [] n = refl
-has_names (k ∷ keys) n = λ i. turned_name k.name n i || has_names keys n i
-
 pub among_all : (ns ms : List Name) → among ns ms ≡ list_all (has ns) ms
 unfolding among
 among_all ns [] = refl
@@ -32,22 +27,6 @@ from_true false h = search rules
 pub to_true : (b : Bool) → b ≡ true → IsTrue b
 to_true true h = search rules
 to_true false h = cc
-
-key_cols-append : (keys : List KeyCol) (ns ms : List Name) → key_cols keys (ns ++ ms) ≡ key_cols keys ns ++ key_cols keys ms
-unfolding key_cols
-key_cols-append keys ns ms = flat_map-append (key_col keys) ns ms
-
-key_cols-one : (keys : List KeyCol) (n : Name) → key_cols keys (n ∷ []) ≡ key_col keys n
-unfolding key_cols
-key_cols-one keys n = append-nil (key_col keys n)
-
-pub key_cols-none : (keys : List KeyCol) → key_cols keys [] ≡ []
-unfolding key_cols
-key_cols-none keys = refl
-
--- the columns of one name more
-pub key_cols-more : (keys : List KeyCol) (ns : List Name) (i : ℕ) (n : Name) → i < length ns → n ≡ get_or ns i n → key_cols keys (take (i + 1) ns) ≡ key_cols keys (take i ns) ++ key_col keys n
-key_cols-more keys ns i n h here = rw (add-one, take-suc ns i n h, ← here, key_cols-append keys (take i ns) (n ∷ []), key_cols-one keys n) refl
 
 -- the columns that were made are a table's
 of_columns : (c : Columns) (keys : List KeyCol) (vals : List ValCol) → keys ≡ c.keys → vals ≡ c.vals → are_columns c.keys c.vals ≡ true → IsTrue (are_columns keys vals)

@@ -28,8 +28,7 @@ use Rattle.lara_types.specs.Checks.{order_of, checked_statement, Progress, at_st
 use Rattle.lara_types.specs.HasTypes.{OpHas, IsOrder, StatementHas, AllHave, HasTypes}
 use Rattle.lara_types.specs.Judgements.{refused}
 use Rattle.lara_types.specs.Steps.{◌>>=◌, walk}
-use Rattle.lara_types.proofs.Answered.{ok_is}
-use Rattle.lara_types.proofs.EntryValues.{bind_ok_parts}
+use Rattle.lara_types.proofs.Answered.{ok_is, bind_ok_parts}
 use Rattle.lara_types.proofs.FoundLiterals.{found_literal}
 
 -- ---- trees

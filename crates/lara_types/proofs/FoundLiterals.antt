@@ -29,8 +29,7 @@ use Rattle.lara_types.specs.Judgements.{Judged, refused}
 use Rattle.lara_types.specs.LiteralEntries.{other_key, other_val, key_of, val_of, keys_from, vals_from, values_of, first_place, alike, is_whole, entry_of, one_more_entry, entries_of}
 use Rattle.lara_types.specs.LiteralTypes.{distinct_names, key_col, val_col, few_enough, literal_type}
 use Rattle.lara_types.specs.Steps.{◌>>=◌, walk}
-use Rattle.lara_types.proofs.Answered.{ok_is}
-use Rattle.lara_types.proofs.EntryValues.{bind_ok_parts, whole_row}
+use Rattle.lara_types.proofs.Answered.{ok_is, bind_ok_parts}
 
 -- ---- values
 
@@ -74,12 +73,16 @@ found_vals done (c ∷ cs) (x ∷ ls) r l e =
 
 -- ---- entries
 
--- a whole entry has as many literals in its key as key columns
+-- a whole entry has as many literals as columns
 whole_key : (ty : Columns) (x : AstEntry) → is_whole ty x ≡ true → length x.key ≡ length ty.keys
 whole_key ty x h =
     eqb-true (length x.key) (length ty.keys) ((and_parts (length x.key == length ty.keys) (length x.row == length ty.vals) h).0)
 
-found_values : (ty : Columns) (x : AstEntry) (e : Entry) → is_whole ty x ≡ true → values_of ty x ≡ Ok e → AreKeys ty.keys x.key e.key × AreVals ty.vals x.row e.row
+whole_row : (ty : Columns) (x : AstEntry) → is_whole ty x ≡ true → length x.row ≡ length ty.vals
+whole_row ty x h =
+    eqb-true (length x.row) (length ty.vals) ((and_parts (length x.key == length ty.keys) (length x.row == length ty.vals) h).1)
+
+pub found_values : (ty : Columns) (x : AstEntry) (e : Entry) → is_whole ty x ≡ true → values_of ty x ≡ Ok e → AreKeys ty.keys x.key e.key × AreVals ty.vals x.row e.row
 unfolding values_of
 found_values ty x e w is =
     let k = bind_ok_parts (keys_from [] ty.keys x.key) (λ k. vals_from [] ty.vals x.row >>= λ r. Ok (record { key = k; row = r })) e is in

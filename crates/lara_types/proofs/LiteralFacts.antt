@@ -2,7 +2,7 @@
 use Rattle.std.specs.Prelude.{◌≡◌, ℕ, ◌<◌, ◌-◌, ◌^◌, true, false, not, List, [], ◌∷◌}
 use Rattle.std.specs.List.{list_all, list_any}
 use Rattle.std.proofs.Common.{refl, ap, ◌∙◌, arith}
-use Rattle.std.proofs.lemmas.Bool.{and_from, or_from, lt-ltb, lt-leb}
+use Rattle.std.proofs.lemmas.Bool.{and_from, or_from, lt-leb}
 use Rattle.std.proofs.lemmas.Bool.Decides.{nat_tests}
 use Rattle.lara_key.specs.declared.key.KeyType.{KeyType}
 use Rattle.lara_key.specs.declared.key.KeyType.TheVariants as key_type
@@ -31,13 +31,16 @@ use Rattle.lara_syntax.specs.declared.ast.AstType.{AstType}
 use Rattle.lara_syntax.specs.declared.ast.AstValue.{AstValue}
 use Rattle.lara_syntax.specs.declared.ast.AstValue.TheVariants.{Number}
 use Rattle.lara_types.specs.HasTypes.{IsKey, IsVal, AreKeys, AreVals, AreEntries, LiteralHas}
-use Rattle.lara_types.proofs.EntryValues.{below_top}
 
 -- ---- one value
 
 key_below : (n : ℕ) → n < 2 ^ 64 - 1 → has_key_type key_type.Nat (key.Nat n) ≡ true
 unfolding has_key_type
 key_below n h = grind (arith, nat_tests)
+
+val_below : (n : ℕ) → n < 2 ^ 64 - 1 → has_type val_type.Count (value.Count n) ≡ true
+unfolding has_type
+val_below n h = grind (arith, nat_tests)
 
 key_inside : (n : ℕ) → n < 2 ^ 64 - 1 → key_is_over (key.Nat n) ≡ false
 unfolding key_is_over
@@ -53,7 +56,7 @@ key_is key_type.Nat other k h = absurd h
 
 val_is : (t : ValType) (x : AstValue) (v : Value) → IsVal t x v → (has_type t v ≡ true) × (value_is_over t v ≡ false)
 val_is val_type.Count (Number n) v h =
-    (ap (has_type val_type.Count) h.1 ∙ below_top n (lt-ltb n (2 ^ 64 - 1) h.0), ap (value_is_over val_type.Count) h.1 ∙ val_inside n h.0)
+    (ap (has_type val_type.Count) h.1 ∙ val_below n h.0, ap (value_is_over val_type.Count) h.1 ∙ val_inside n h.0)
 val_is val_type.Count other v h = absurd h
 
 -- ---- keys, rows and entries
@@ -70,7 +73,7 @@ keys_are (c ∷ cs) (l ∷ ls) (k ∷ ks) h =
     let all = keys_are cs ls ks h.1 in
     (and_from (has_key_type c.ty k) (tuple_has (key_types cs) ks) one.0 all.0, or_from (key_is_over k) (list_any key_is_over ks) one.1 all.1)
 
-vals_are : (cs : List ValCol) (ls : List AstLit) (vs : Row) → AreVals cs ls vs → (row_has (types cs) vs ≡ true) × (row_is_over (types cs) vs ≡ false)
+pub vals_are : (cs : List ValCol) (ls : List AstLit) (vs : Row) → AreVals cs ls vs → (row_has (types cs) vs ≡ true) × (row_is_over (types cs) vs ≡ false)
 unfolding AreVals row_has row_is_over
 vals_are [] [] [] h = (refl, refl)
 vals_are [] [] (v ∷ vs) h = absurd h

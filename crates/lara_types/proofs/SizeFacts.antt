@@ -3,12 +3,11 @@ use Rattle.std.specs.Prelude.{◌≡◌, ◌+◌, List, [], ◌∷◌, length}
 use Rattle.std.proofs.Common.{refl, sym, ap, ◌∙◌, suc}
 use Rattle.std.proofs.lemmas.List.Sums.{sum_by-cons}
 use Rattle.lara_data.specs.declared.node.Node.{Node}
-use Rattle.lara_data.specs.declared.node.Op.TheVariants as to
 use Rattle.lara_data.specs.declared.schema.Schema.{Schema}
 use Rattle.lara_data.specs.declared.script.Statement.{Statement}
-use Rattle.lara_data.specs.Names.{Name}
-use Rattle.lara_data.specs.Tables.{Entries}
+use Rattle.lara_data.specs.TreeSizes.{nodes}
 use Rattle.lara_data.specs.TypedScripts.{known_after}
+use Rattle.lara_data.proofs.SizeEquations.{nodes_Load, nodes_Named, nodes_Literal, nodes_Join, nodes_Union, nodes_Agg}
 use Rattle.lara_syntax.specs.declared.ast.Ast.{Ast}
 use Rattle.lara_syntax.specs.declared.ast.AstOp.{AstOp}
 use Rattle.lara_syntax.specs.declared.ast.AstOp.TheBlock.{end_of-AstNode, more_of-AstNode}
@@ -17,48 +16,20 @@ use Rattle.lara_syntax.specs.declared.ast.AstStatement.{AstStatement}
 use Rattle.lara_syntax.specs.declared.ast.AstStatement.TheVariants as ast
 use Rattle.lara_types.specs.CheckedTrees.{plain}
 use Rattle.lara_types.specs.HasTypes.{OpHas, StatementHas, AllHave, HasTypes}
-use Rattle.lara_types.specs.Sizes.{written_nodes, typed_nodes, nodes_written, nodes_typed, all_written, all_typed}
-
--- ---- the nodes of what an operator makes
-
-typed_nodes_Load : (n : Name) → typed_nodes (to.Load n) ≡ 1
-unfolding typed_nodes
-typed_nodes_Load n = refl
-
-typed_nodes_Named : (n : Name) → typed_nodes (to.Named n) ≡ 1
-unfolding typed_nodes
-typed_nodes_Named n = refl
-
-typed_nodes_Literal : (es : Entries) → typed_nodes (to.Literal es) ≡ 1
-unfolding typed_nodes
-typed_nodes_Literal es = refl
-
-typed_nodes_Join : (a b : Node) → typed_nodes (to.Join a b) ≡ 1 + (typed_nodes a.op + typed_nodes b.op)
-unfolding typed_nodes Rattle.lara_data.specs.declared.node.Op.TheBlock.hidden-the_row-Node-0 denote.Hole.Carrier.hidden
-typed_nodes_Join a b = refl
-
-typed_nodes_Union : (a b : Node) → typed_nodes (to.Union a b) ≡ 1 + (typed_nodes a.op + typed_nodes b.op)
-unfolding typed_nodes Rattle.lara_data.specs.declared.node.Op.TheBlock.hidden-the_row-Node-0 denote.Hole.Carrier.hidden
-typed_nodes_Union a b = refl
-
-typed_nodes_Agg : (a : Node) (ks : List Name) → typed_nodes (to.Agg a ks) ≡ 1 + typed_nodes a.op
-unfolding typed_nodes Rattle.lara_data.specs.declared.node.Op.TheBlock.hidden-the_row-Node-0 denote.Hole.Carrier.hidden
-typed_nodes_Agg a ks = refl
-
--- ---- trees and scripts
+use Rattle.lara_types.specs.Sizes.{written_nodes, nodes_written, nodes_typed, all_written, all_typed}
 
 -- a typed tree has as many nodes as what is written
-same_nodes : (stored known : List Schema) (tree : AstOp) (node : Node) → OpHas stored known tree node → typed_nodes node.op ≡ written_nodes tree
+same_nodes : (stored known : List Schema) (tree : AstOp) (node : Node) → OpHas stored known tree node → nodes node.op ≡ written_nodes tree
 unfolding OpHas written_nodes
-same_nodes stored known (Load n) node h = ap typed_nodes h.0 ∙ typed_nodes_Load n.name
-same_nodes stored known (Named n) node h = ap typed_nodes h.0 ∙ typed_nodes_Named n.name
-same_nodes stored known (Literal ty es) node h = ap typed_nodes h.op ∙ typed_nodes_Literal h.entries
+same_nodes stored known (Load n) node h = ap nodes h.0 ∙ nodes_Load n.name
+same_nodes stored known (Named n) node h = ap nodes h.0 ∙ nodes_Named n.name
+same_nodes stored known (Literal ty es) node h = ap nodes h.op ∙ nodes_Literal h.entries
 same_nodes stored known (Join' _ (more_of-AstNode i a end_of-AstNode) _ (more_of-AstNode j b end_of-AstNode)) node h =
-    ap typed_nodes h.2 ∙ typed_nodes_Join h.0 h.1 ∙ (λ i. 1 + (same_nodes stored known a h.0 h.4 i + same_nodes stored known b h.1 h.5 i))
+    ap nodes h.2 ∙ nodes_Join h.0 h.1 ∙ (λ i. 1 + (same_nodes stored known a h.0 h.4 i + same_nodes stored known b h.1 h.5 i))
 same_nodes stored known (Union' _ (more_of-AstNode i a end_of-AstNode) _ (more_of-AstNode j b end_of-AstNode)) node h =
-    ap typed_nodes h.2 ∙ typed_nodes_Union h.0 h.1 ∙ (λ i. 1 + (same_nodes stored known a h.0 h.4 i + same_nodes stored known b h.1 h.5 i))
+    ap nodes h.2 ∙ nodes_Union h.0 h.1 ∙ (λ i. 1 + (same_nodes stored known a h.0 h.4 i + same_nodes stored known b h.1 h.5 i))
 same_nodes stored known (Agg' _ (more_of-AstNode i a end_of-AstNode) ks) node h =
-    ap typed_nodes h.1 ∙ typed_nodes_Agg h.0 (plain ks) ∙ ap (λ n. 1 + n) (same_nodes stored known a h.0 h.3)
+    ap nodes h.1 ∙ nodes_Agg h.0 (plain ks) ∙ ap (λ n. 1 + n) (same_nodes stored known a h.0 h.3)
 same_nodes stored known (Map' _ (more_of-AstNode i a end_of-AstNode) defs) node h = absurd h
 same_nodes stored known (Filter' _ (more_of-AstNode i a end_of-AstNode) test) node h = absurd h
 same_nodes stored known (Promote' _ (more_of-AstNode i a end_of-AstNode) def) node h = absurd h

@@ -23,6 +23,7 @@ use Rattle.lara_syntax.specs.declared.ast.AstStatement.TheVariants as ast
 use Rattle.lara_types.specs.CheckedTrees.{plain}
 use Rattle.lara_types.specs.HasTypes.{OpHas, IsOrder, StatementHas, AllHave, HasTypes}
 use Rattle.lara_types.specs.StoredTypes.{AllColumns}
+use Rattle.lara_types.proofs.ColumnFacts.{among_all}
 use Rattle.lara_types.proofs.LiteralFacts.{is_literal}
 
 -- ---- stored names
@@ -69,15 +70,10 @@ module _ (stored : List Schema) (of_stored : AllColumns stored) (known : List Sc
 
 -- ---- scripts
 
-each_has : (ns ms : List Name) → list_all (has ns) ms ≡ among ns ms
-unfolding among
-each_has ns [] = refl
-each_has ns (m ∷ ms) = ap (λ b. has ns m && b) (each_has ns ms)
-
 -- the declared order is an order
 declared_order : (keys : List Name) → is_order keys keys ≡ true
 unfolding is_order
-declared_order keys = and_from (length keys == length keys) (list_all (has keys) keys) (eq-eqb (length keys) (length keys) refl) (each_has keys keys ∙ among_itself keys)
+declared_order keys = and_from (length keys == length keys) (list_all (has keys) keys) (eq-eqb (length keys) (length keys) refl) (sym (among_all keys keys) ∙ among_itself keys)
 
 -- a print's order has each key column once
 order_typed : (ty : Columns) (by : Option AstBy) (order : List Name) → IsOrder ty by order → is_order order (key_names ty.keys) ≡ true

@@ -16,6 +16,11 @@ abbrev pub FaultJudges : {A : Type 0} → Judged A → ReadFault → Type 0
 FaultJudges judged (Refused refusal) = judged ≡ Err refusal
 FaultJudges judged Memory = Unit {0}
 
+-- the fault is a refusal; steps that take no memory have no other
+abbrev pub NotMemory : ReadFault → Type 0
+NotMemory (Refused refusal) = Unit {0}
+NotMemory Memory = ⊥
+
 -- what was returned is what the rules judge, unless memory ran out
 abbrev pub Judges : {A B : Type 0} → (A → B) → Judged B → Result A ReadFault → Type 0
 Judges view judged (Ok x) = judged ≡ Ok (view x)

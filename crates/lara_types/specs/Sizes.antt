@@ -1,11 +1,9 @@
 -- How many nodes a script has, with places and typed.
 use Rattle.std.specs.Prelude.{ℕ, ◌+◌, List}
 use Rattle.std.specs.List.{sum_by}
-use Rattle.lara_data.specs.declared.node.Op.{Op}
-use Rattle.lara_data.specs.declared.node.Op.TheBlock.{end_of-Node, more_of-Node}
-use Rattle.lara_data.specs.declared.node.Op.TheVariants as to
 use Rattle.lara_data.specs.declared.script.Statement.{Statement}
 use Rattle.lara_data.specs.declared.script.Statement.TheVariants.{Assign, Print, Store}
+use Rattle.lara_data.specs.TreeSizes.{nodes}
 use Rattle.lara_syntax.specs.declared.ast.AstOp.{AstOp}
 use Rattle.lara_syntax.specs.declared.ast.AstOp.TheBlock.{end_of-AstNode, more_of-AstNode}
 use Rattle.lara_syntax.specs.declared.ast.AstOp.TheVariants.{Load, Named, Literal, Join', Union', Agg', Map', Filter', Promote', Rename', Apply'}
@@ -26,27 +24,13 @@ written_nodes (Promote' _ (more_of-AstNode i a end_of-AstNode) def) = 1 + writte
 written_nodes (Rename' _ (more_of-AstNode i a end_of-AstNode) pairs) = 1 + written_nodes a
 written_nodes (Apply' _ (more_of-AstNode i a end_of-AstNode) call) = 1 + written_nodes a
 
--- the nodes of a typed tree
-unfoldable pub typed_nodes : Op → ℕ
-typed_nodes (to.Load n) = 1
-typed_nodes (to.Named n) = 1
-typed_nodes (to.Literal es) = 1
-typed_nodes (to.Join' _ (more_of-Node t a end_of-Node) _ (more_of-Node u b end_of-Node)) = 1 + (typed_nodes a + typed_nodes b)
-typed_nodes (to.Union' _ (more_of-Node t a end_of-Node) _ (more_of-Node u b end_of-Node)) = 1 + (typed_nodes a + typed_nodes b)
-typed_nodes (to.Agg' _ (more_of-Node t a end_of-Node) ks) = 1 + typed_nodes a
-typed_nodes (to.Map' _ (more_of-Node t a end_of-Node) defs) = 1 + typed_nodes a
-typed_nodes (to.Filter' _ (more_of-Node t a end_of-Node) test) = 1 + typed_nodes a
-typed_nodes (to.Promote' _ (more_of-Node t a end_of-Node) def) = 1 + typed_nodes a
-typed_nodes (to.Rename' _ (more_of-Node t a end_of-Node) pairs) = 1 + typed_nodes a
-typed_nodes (to.Apply' _ (more_of-Node t a end_of-Node) call) = 1 + typed_nodes a
-
 abbrev pub nodes_written : AstStatement → ℕ
 nodes_written (ast.Assign at name tree) = written_nodes tree.op
 nodes_written (ast.Print at name by) = 0
 nodes_written (ast.Store at old new) = 0
 
 abbrev pub nodes_typed : Statement → ℕ
-nodes_typed (Assign name node) = typed_nodes node.op
+nodes_typed (Assign name node) = nodes node.op
 nodes_typed (Print name order) = 0
 nodes_typed (Store old new) = 0
 

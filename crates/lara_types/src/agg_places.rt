@@ -4,9 +4,8 @@ ghost use Rattle.std.specs.List.{list_any};
 ghost use Rattle.std.specs.Str.{bytes_eq};
 ghost use Rattle.lara_types.specs.CheckedTrees.{stranger, repeated, agg_place};
 
-use crate::named::is_key_name;
 use lara_base::{List, Name};
-use lara_data::{KeyCol, Kind, TableType};
+use lara_data::{KeyCol, Kind, TableType, is_key_name};
 use lara_syntax::AstName;
 
 // The place of the first name that is no key column's, or another.

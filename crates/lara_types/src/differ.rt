@@ -2,27 +2,16 @@
 ghost use Rattle.std.specs.Prelude.{◌≡◌};
 ghost use Rattle.std.specs.List.{list_any};
 ghost use Rattle.lara_data.specs.TypeRules.{same_key_type, is_other_key, is_other_val, key_differs, val_differs, types_differ};
-ghost use Rattle.lara_data.specs.Vals.{same_type};
 
 use crate::named::{has_key, has_val};
-use lara_data::{KeyCol, TableType, ValCol};
+use lara_data::{KeyCol, TableType, ValCol, same_type};
 use lara_key::KeyType;
-use lara_semiring::ValType;
 
 fn same_key_type(a: KeyType, b: KeyType) -> bool
     ensures { result ≡ same_key_type a b }
 {
     match (a, b) {
         (KeyType::Nat, KeyType::Nat) => true,
-    }
-}
-
-/// Whether two value types are one.
-pub fn same_type(a: ValType, b: ValType) -> bool
-    ensures { result ≡ same_type a b }
-{
-    match (a, b) {
-        (ValType::Count, ValType::Count) => true,
     }
 }
 

@@ -8,7 +8,6 @@ mod literal_types;
 mod named;
 mod orders;
 mod refuse;
-mod result_cols;
 mod rules;
 mod scripts;
 mod stored;

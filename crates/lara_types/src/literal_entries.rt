@@ -1,10 +1,10 @@
 //! The entries of a literal: as many literals as columns, of their kinds and in their ranges.
-ghost use Rattle.std.specs.Prelude.{◌≡◌, [], ◌++◌, ◌∷◌, length, true, IfOk, IfSome};
+ghost use Rattle.std.specs.Prelude.{◌≡◌, [], ◌++◌, ◌∷◌, length, true, IfErr, IfOk, IfSome};
 ghost use Rattle.lara_semiring.specs.Rows.{row_has};
 ghost use Rattle.lara_types.specs.Steps.{walk};
 ghost use Rattle.lara_data.specs.KeyedTables.{all_have};
 ghost use Rattle.lara_data.specs.TableTypes.{types};
-ghost use Rattle.lara_types.specs.Judgements.{Judges};
+ghost use Rattle.lara_types.specs.Judgements.{Judges, NotMemory};
 ghost use Rattle.lara_types.specs.LiteralEntries.{is_key_lit, is_val_lit, other_key, other_val, key_of, val_of, keys_from, vals_from, values_of, first_place, is_whole, entry_of, one_more_entry};
 
 use crate::refuse::refused;
@@ -73,7 +73,8 @@ fn other_val(cols: &[ValCol], lits: &[AstLit]) -> Option<u32>
 
 // The key column that a literal stands for.
 fn key_of(ty: KeyType, lit: &AstLit) -> Result<KeyVal, ReadFault>
-    ensures { Judges (λ k. k) (key_of ty lit.now.at lit.now.value) result }
+    ensures gives { Judges (λ k. k) (key_of ty lit.now.at lit.now.value) result }
+    ensures sure { IfErr result NotMemory }
 {
     match (ty, &lit.value) {
         (KeyType::Nat, AstValue::Number(n)) => {
@@ -89,7 +90,8 @@ fn key_of(ty: KeyType, lit: &AstLit) -> Result<KeyVal, ReadFault>
 
 // The value that a literal stands for.
 fn val_of(ty: ValType, lit: &AstLit) -> Result<Value, ReadFault>
-    ensures { Judges (λ v. v) (val_of ty lit.now.at lit.now.value) result }
+    ensures gives { Judges (λ v. v) (val_of ty lit.now.at lit.now.value) result }
+    ensures sure { IfErr result NotMemory }
 {
     match (ty, &lit.value) {
         (ValType::Count, AstValue::Number(n)) => {

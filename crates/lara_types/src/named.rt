@@ -5,7 +5,7 @@ ghost use Rattle.lara_data.specs.Names.{has, among, distinct};
 ghost use Rattle.lara_data.specs.TableTypes.{has_key, has_val, key_names};
 
 use lara_base::Name;
-use lara_data::{KeyCol, ValCol};
+use lara_data::{KeyCol, ValCol, is_key_name};
 
 /// Whether a key column has the name.
 pub fn has_key(keys: &[KeyCol], name: &Name) -> bool
@@ -19,14 +19,6 @@ pub fn has_val(vals: &[ValCol], name: &Name) -> bool
     ensures { result ≡ has_val name.now vals.now }
 {
     vals.iter().any(|v| v.name.same(name))
-}
-
-/// Whether the name is a key column's.
-#[tactic(auto, using(crate::proofs::ColumnFacts::has_names))]
-pub fn is_key_name(keys: &[KeyCol], name: &Name) -> bool
-    ensures { result ≡ has (key_names keys.now) name.now }
-{
-    has_key(keys, name)
 }
 
 /// Whether a name is among others.

@@ -2,7 +2,6 @@
 ghost use Rattle.std.specs.Prelude.{◌≡◌, map, None, Some, Ok};
 ghost use Rattle.std.specs.List.{list_all};
 ghost use Rattle.lara_data.specs.Names.{has};
-ghost use Rattle.lara_data.specs.TableTypes.{key_names};
 ghost use Rattle.lara_types.specs.Checks.{order_of};
 ghost use Rattle.lara_types.specs.CheckedTrees.{plain};
 ghost use Rattle.lara_types.specs.Judgements.{Judges};
@@ -11,19 +10,9 @@ ghost use Rattle.lara_data.specs.TypedScripts.{is_order};
 use crate::named::has;
 use crate::refuse::refused;
 use lara_base::{Copied, List, Name};
-use lara_syntax::{AstBy, AstName, KeyCol, Kind, ReadFault, TableType};
+use lara_data::key_names;
+use lara_syntax::{AstBy, AstName, Kind, ReadFault, TableType};
 use std::alloc::Global;
-
-// The names of the key columns.
-fn key_names(alloc: Global, keys: &List<KeyCol>) -> Result<List<Name>, ReadFault>
-    ensures { Judges (λ ns. ns) (Ok (key_names keys.now)) result }
-{
-    let mut names = List::new(alloc);
-    for key in keys.as_slice() {
-        names.push(key.name.copy(alloc)?)?;
-    }
-    Ok(names)
-}
 
 /// The names without their places.
 pub fn plain_names(alloc: Global, listed: &List<AstName>) -> Result<List<Name>, ReadFault>

@@ -4,9 +4,11 @@ ghost use Rattle.lara_data.specs.TypeRules.{is_none, too_many, join_type, union_
 
 use crate::differ::types_differ;
 use crate::named::{are_distinct, are_key_names};
-use crate::result_cols::{all_keys, all_vals, common_keys, common_vals, key_cols};
 use lara_base::{Copied, List, Name};
-use lara_data::{KeyCol, Kind, MAX_COLS, TableType, ValCol};
+use lara_data::{
+    KeyCol, Kind, MAX_COLS, TableType, ValCol, all_keys, all_vals, common_keys, common_vals,
+    key_cols,
+};
 use std::alloc::{AllocError, Global};
 
 /// The type of what an operator makes, or the kind of the first rule that is broken.

@@ -119,12 +119,20 @@ pub fn check(
     stored: &List<Schema>,
     plugins: &Vec<Box<dyn Plugin>>,
 ) -> Result<Script, ReadFault>
+    // No two stored tables have one name, as in each database.
     requires { distinct (map (λ s. s.name) stored.now) ≡ true }
+    // What is answered is what the tree stands for: each node as written, its columns by the rules (specs/HasTypes.antt).
     ensures found { IfOk result (λ ss. HasTypes stored.now tree.now ss) }
+    // Whatever the tree stands for is answered, so that no such tree is refused (specs/HasTypes.antt).
     ensures only { (ss : List Typed) → HasTypes stored.now tree.now ss → Judges (λ s. s) (Ok ss) result }
+    // A refusal is the first in the order of the rules: its place and its kind (specs/Checks.antt; in words the table under
+    // "Refusals" in docs/LANGUAGE.md).
     ensures exact { Judges (λ s. s) (checked stored.now tree.now) result }
+    // No statement is lost or added.
     ensures statements { IfOk result (λ ss. length ss ≡ length tree.now.statements) }
+    // No node of a tree is lost or added (specs/Sizes.antt).
     ensures nodes { IfOk result (λ ss. all_typed ss ≡ all_written tree.now.statements) }
+    // The script fits each database with these names and types, which is what its evaluation asks for (ScriptFits of lara_data).
     ensures fits { IfOk result (λ ss. (db : Database) → TablesOf stored.now db → ScriptFits (handed ⟦<dyn Plugin as Plugin>⟧ plugins.now.items) db ss) }
 {
     have_columns(stored.as_slice());

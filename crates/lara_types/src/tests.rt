@@ -8,7 +8,7 @@ use lara_semiring::ValType;
 use std::alloc::{AllocError, Global};
 use std::test::Fail;
 
-fn name(alloc: Global, letter: u8) -> Result<Name, AllocError> {
+pub fn name(alloc: Global, letter: u8) -> Result<Name, AllocError> {
     Name::new(List::from_slice(alloc, &[letter])?).ok_or(AllocError)
 }
 
@@ -21,7 +21,7 @@ fn names(alloc: Global, letters: &[u8]) -> Result<List<Name>, AllocError> {
 }
 
 // The type with these key columns and value columns, each a letter.
-fn columns(alloc: Global, key_names: &[u8], val_names: &[u8]) -> Result<TableType, AllocError> {
+pub fn columns(alloc: Global, key_names: &[u8], val_names: &[u8]) -> Result<TableType, AllocError> {
     let mut keys = List::new(alloc);
     for letter in key_names {
         keys.push(KeyCol {

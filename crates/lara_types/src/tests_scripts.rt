@@ -1,7 +1,10 @@
 //! Scripts where there is memory, with what they are refused for worked out by hand.
+ghost use Rattle.std.specs.Prelude.{◌≡◌, ◌≤◌, true, length, map, IfOk};
+ghost use Rattle.lara_data.specs.Names.{distinct};
 
 use crate::check;
-use lara_base::{List, Name};
+use crate::tests::{columns, name};
+use lara_base::{Copied, List};
 use lara_data::{Kind, Op, ReadFault, Schema, Script, Statement};
 use lara_syntax::{Ast, AstName, AstStatement, parse};
 use std::alloc::{AllocError, Global};
@@ -33,6 +36,18 @@ fn assigns(statement: Option<&Statement>, entries: usize) -> bool {
     }
 }
 
+fn copy_of<T: Copied>(alloc: Global, value: &T) -> Result<T, AllocError> {
+    value.copy(alloc)
+}
+
+// Whether a copy of the script assigns the same.
+fn copies(alloc: Global, script: &Script, entries: usize) -> bool {
+    match copy_of(alloc, script) {
+        Ok(copy) => assigns(copy.statements.as_slice().first(), entries),
+        Err(_) => false,
+    }
+}
+
 #[test]
 fn literals_and_prints_have_types(rt: HostRuntime) -> Result<(), Fail> {
     let alloc = rt.alloc();
@@ -41,10 +56,40 @@ fn literals_and_prints_have_types(rt: HostRuntime) -> Result<(), Fail> {
         Ok(script) => {
             assert_eq!(rt; script.statements.len(), 2);
             assert!(rt; assigns(script.statements.as_slice().first(), 2));
+            assert!(rt; copies(alloc, &script, 2));
         }
         Err(_) => assert!(rt; false),
     }
     Ok(())
+}
+
+// One stored table, B, with the key column k and the value column v.
+#[tactic(auto, unfolding(lara_data::specs::Names::distinct, lara_data::specs::Names::has))]
+fn one_stored(alloc: Global) -> Result<List<Schema>, AllocError>
+    ensures { IfOk result (λ ss. distinct (map (λ s. s.name) ss) ≡ true) }
+{
+    let mut stored = List::new(alloc);
+    stored.push(Schema {
+        name: name(alloc, b'B')?,
+        ty: columns(alloc, b"k", b"v")?,
+    })?;
+    Ok(stored)
+}
+
+// A script over the one stored table.
+fn checked_over_one(alloc: Global, script: &[u8]) -> Result<Script, ReadFault>
+    requires { length script.now ≤ 1048576 }
+{
+    let stored = one_stored(alloc)?;
+    let tree = parse(alloc, script)?;
+    check(alloc, &tree, &stored, &Vec::new(alloc))
+}
+
+#[test]
+fn loads_have_the_type_that_is_stored(rt: HostRuntime) {
+    let alloc = rt.alloc();
+    assert!(rt; checked_over_one(alloc, b"A=load B;print A by k;").is_ok());
+    assert!(rt; refuses(checked_over_one(alloc, b"A=load K;"), 7, Kind::NoTable));
 }
 
 #[test]
@@ -57,12 +102,16 @@ fn scripts_are_refused_at_the_word(rt: HostRuntime) -> Result<(), Fail> {
 
 // Stores the name of one letter, at byte 50, under another.
 fn store(alloc: Global, letter: u8) -> Result<AstStatement, AllocError> {
-    let old = Name::new(List::from_slice(alloc, &[letter])?).ok_or(AllocError)?;
-    let new = Name::new(List::from_slice(alloc, b"Kept")?).ok_or(AllocError)?;
     Ok(AstStatement::Store {
         at: 44,
-        old: AstName { name: old, at: 50 },
-        new: AstName { name: new, at: 52 },
+        old: AstName {
+            name: name(alloc, letter)?,
+            at: 50,
+        },
+        new: AstName {
+            name: name(alloc, b'K')?,
+            at: 52,
+        },
     })
 }
 

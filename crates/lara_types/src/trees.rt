@@ -1,9 +1,9 @@
 //! The typed tree of a tree with places.
-ghost use Rattle.std.specs.Prelude.{◌≡◌};
+ghost use Rattle.std.specs.Prelude.{◌≡◌, IfErr};
 ghost use Rattle.std.specs.Option.{option_copied};
 ghost use Rattle.lara_data.specs.TypedTrees.{type_named};
 ghost use Rattle.lara_data.specs.TypeRules.{join_type, union_type, agg_type};
-ghost use Rattle.lara_types.specs.Judgements.{Judges};
+ghost use Rattle.lara_types.specs.Judgements.{Judges, NotMemory};
 ghost use Rattle.lara_types.specs.CheckedTrees.{plain, known_type, loaded, assigned, placed, placed_agg, literal_node, checked_op};
 
 use crate::agg_places::agg_place;
@@ -37,7 +37,8 @@ pub fn known_type<'a>(
     name: &AstName,
     kind: Kind,
 ) -> Result<&'a TableType, ReadFault>
-    ensures { Judges (λ t. t.now) (known_type kind name.now (type_named name.now.name known.now)) result }
+    ensures gives { Judges (λ t. t.now) (known_type kind name.now (type_named name.now.name known.now)) result }
+    ensures sure { IfErr result NotMemory }
 {
     match type_named(known, &name.name) {
         Some(ty) => Ok(ty),
@@ -83,7 +84,8 @@ fn literal_of(
 
 // The operator with its type, or a rule's refusal at its place.
 fn placed(at: u32, op: Op, ty: Result<TableType, Kind>) -> Result<Node, ReadFault>
-    ensures { Judges (λ n. n) (placed at op ty) result }
+    ensures gives { Judges (λ n. n) (placed at op ty) result }
+    ensures sure { IfErr result NotMemory }
 {
     match ty {
         Ok(ty) => Ok(Node { ty, op }),
@@ -117,7 +119,8 @@ fn placed_agg(
     keys: &List<AstName>,
     ty: Result<TableType, Kind>,
 ) -> Result<Node, ReadFault>
-    ensures { Judges (λ n. n) (placed_agg a at keys.now ty) result }
+    ensures gives { Judges (λ n. n) (placed_agg a at keys.now ty) result }
+    ensures sure { IfErr ty (λ kind. IfErr result NotMemory) }
 {
     match ty {
         Ok(ty) => {
