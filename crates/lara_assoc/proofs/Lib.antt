@@ -4,9 +4,9 @@ pub mod JoinFacts
 pub mod MapFacts
 pub mod MeantFacts
 pub mod PairFacts
+pub mod Places
 pub mod RangeFacts
 pub mod RowFacts
 pub mod RunFacts
 pub mod TableFacts
-pub mod TreeSizes
 pub mod NewestFacts

@@ -4,9 +4,8 @@ ghost use Rattle.lara_data.specs.TableTypes.{are_columns};
 ghost use Rattle.lara_data.specs.Algebra.{agg_columns, agg_table};
 
 use crate::assoc::Assoc;
-use crate::headings::key_cols;
 use lara_base::{Copied, List, Name};
-use lara_data::TableType;
+use lara_data::{TableType, key_cols};
 use std::alloc::{AllocError, Global};
 
 // The type of an agg.

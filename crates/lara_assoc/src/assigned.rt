@@ -10,7 +10,7 @@ use lara_base::{Copied, List, Name};
 use lara_data::TableType;
 use std::alloc::{AllocError, Global};
 
-/// Names with their newest tables, in the sequence in which the names were first assigned.
+/// Names with their newest tables.
 #[derive(Drop)]
 pub struct Assigned {
     pub tables: IndexMap<Name, Assoc>,

@@ -6,7 +6,6 @@ mod assigned;
 mod assoc;
 mod columns;
 mod groups;
-mod headings;
 mod joins;
 mod lists;
 mod named;

@@ -2,39 +2,19 @@
 ghost use Rattle.std.specs.Prelude.{◌≡◌, true};
 ghost use Rattle.std.specs.List.{list_any};
 ghost use Rattle.lara_key.specs.Keys.{key_is_over};
-ghost use Rattle.lara_semiring.specs.Values.{value_is_over, has_type};
 ghost use Rattle.lara_semiring.specs.Rows.{row_has, row_is_over};
 ghost use Rattle.lara_data.specs.TableTypes.{types};
 
 use lara_base::List;
 use lara_data::ValCol;
-use lara_key::{KeyVal, Tuple};
-use lara_semiring::{Row, ValType, Value};
-
-#[tactic(auto, unfolding(lara_key::specs::Keys::key_is_over))]
-fn is_column_over(column: &KeyVal) -> bool
-    ensures { result ≡ key_is_over column.now }
-{
-    match column {
-        KeyVal::Nat(n) => *n == u64::MAX,
-    }
-}
-
-#[tactic(auto, unfolding(lara_semiring::specs::Values::value_is_over, lara_semiring::specs::Values::has_type))]
-fn is_value_over(ty: &ValType, value: &Value) -> bool
-    requires { has_type ty.now value.now ≡ true }
-    ensures { result ≡ value_is_over ty.now value.now }
-{
-    match (ty, value) {
-        (ValType::Count, Value::Count(n)) => *n == u64::MAX,
-    }
-}
+use lara_key::Tuple;
+use lara_semiring::{Row, is_over};
 
 /// Whether a column of the key is `over`.
 pub fn is_key_over(key: &Tuple) -> bool
     ensures { result ≡ list_any key_is_over key.now }
 {
-    key.as_slice().iter().any(|column| is_column_over(column))
+    key.as_slice().iter().any(|column| column.is_over())
 }
 
 /// Whether a value of the row, which is of the columns' types, is `over`.
@@ -44,7 +24,7 @@ pub fn is_row_over(vals: &List<ValCol>, row: &Row) -> bool
     ensures { result ≡ row_is_over (types vals.now) row.now }
 {
     for i in 0..vals.len() {
-        if is_value_over(&vals[i].ty, &row[i]) {
+        if is_over(&vals[i].ty, &row[i]) {
             return true;
         }
     }

@@ -305,10 +305,38 @@ fn a_product_of_zeros_is_no_entry(rt: HostRuntime) -> Result<(), Fail> {
 }
 
 #[test]
+fn no_entries_are_an_empty_table(rt: HostRuntime) -> Result<(), Fail> {
+    let alloc = rt.alloc();
+    let none = vector(alloc, b'v', &[])?;
+    assert_eq!(rt; none.entries(alloc)?.len(), 0);
+    assert!(rt; none.is_in_range());
+    let united = both(alloc, &[], &[])?;
+    assert_eq!(rt; united.entries(alloc)?.len(), 0);
+    assert_eq!(rt; united.ty().vals.len(), 2);
+    Ok(())
+}
+
+#[test]
+fn keys_that_agree_with_none_are_in_no_product(rt: HostRuntime) -> Result<(), Fail> {
+    let alloc = rt.alloc();
+    let apart = product(alloc, &[(&[1, 2], 3)], &[(&[1, 5], 10)])?;
+    assert_eq!(rt; apart.entries(alloc)?.len(), 0);
+    assert_eq!(rt; apart.ty().keys.len(), 3);
+    let sums = summed(alloc, &[(&[1, 2], 3)], &[])?;
+    assert_eq!(rt; sums.entries(alloc)?.len(), 0);
+    assert_eq!(rt; sums.ty().keys.len(), 2);
+    Ok(())
+}
+
+fn copy_of<T: Copied>(alloc: Global, value: &T) -> Result<T, AllocError> {
+    value.copy(alloc)
+}
+
+#[test]
 fn a_copy_has_the_same_entries(rt: HostRuntime) -> Result<(), Fail> {
     let alloc = rt.alloc();
     let a = matrix(alloc, b'i', b'j', &[(&[2, 5], 10), (&[1, 6], 2)])?;
-    let copy = a.copy(alloc)?;
+    let copy = copy_of(alloc, &a)?;
     let entries = copy.entries(alloc)?;
     assert!(rt; are(entries.as_slice(), &[(&[1, 6], &[2]), (&[2, 5], &[10])]));
     assert_eq!(rt; copy.ty().keys.len(), 2);

@@ -6,11 +6,10 @@ ghost use Rattle.lara_data.specs.Algebra.{heading, shares, union_columns, union_
 
 use crate::assoc::Assoc;
 use crate::columns::cut;
-use crate::headings::{all_vals, common_keys, key_names};
 use crate::lists::appended;
 use crate::rows::brought;
 use lara_base::List;
-use lara_data::{Entry, TableType};
+use lara_data::{Entry, TableType, all_vals, common_keys, key_names};
 use std::alloc::{AllocError, Global};
 
 // The type of a union.

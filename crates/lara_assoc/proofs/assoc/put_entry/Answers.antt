@@ -12,8 +12,8 @@ pub returns-in_ok-insert-in-None : goal.returns-in_ok-insert-in-None
 unfolding tuple_cmp
 returns-in_ok-insert-in-None c =
     step_new tuple_order c.args.tys.now c.args.entry.now c.in_ok-copy-in-None.field-0 c.in_ok-copy-in-None-2.field-0 c.args.rows.now.entries c.insert.new.self.entries
-    c.is_default.result c.requires.typed c.in-None.ensures.value c.is_default.ensures.value c.if-not-is_default.true c.in_ok-copy-in-None.ensures
-    c.in_ok-copy-in-None-2.ensures c.in_ok-insert-in-None.ensures.entries
+    c.is_default.result c.requires.typed c.in-None.ensures.value c.is_default.ensures.value c.if-not-is_default.true c.in_ok-copy-in-None.ensures.same
+    c.in_ok-copy-in-None-2.ensures.same c.in_ok-insert-in-None.ensures.entries
 
 pub returns-else-not-is_default : goal.returns-else-not-is_default
 unfolding tuple_cmp
@@ -32,4 +32,4 @@ unfolding tuple_cmp
 returns-in_ok-insert-in-Some c =
     step_more tuple_order c.args.tys.now c.args.entry.now c.in_ok-copy-in-Some.field-0 c.in-Some.row.now c.in_ok-sum-in-Some.sum c.args.rows.now.entries
     c.insert-else-is_default.new.self.entries c.is_default-in-Some.result c.requires.rising c.in-Some.ensures.value c.in_ok-sum-in-Some.ensures.sum
-    c.is_default-in-Some.ensures.value c.if-is_default.false c.in_ok-copy-in-Some.ensures c.in_ok-insert-in-Some.ensures.entries
+    c.is_default-in-Some.ensures.value c.if-is_default.false c.in_ok-copy-in-Some.ensures.same c.in_ok-insert-in-Some.ensures.entries

@@ -1,7 +1,8 @@
 use Rattle.std.proofs.Common.{arith, ap}
 use Rattle.lara_data.specs.declared.node.Node.{Node}
 use Rattle.lara_assoc.proofs.MeantFacts.{ok_is, load_means, name_means, literal_means, literal_has, join_left, join_right, join_means, join_are, union_left, union_right, union_means, union_are, agg_below, agg_means, agg_are, no_map, no_filter, no_promote, no_rename, no_apply}
-use Rattle.lara_assoc.proofs.TreeSizes.{nodes, nodes_Join, nodes_Union, nodes_Agg}
+use Rattle.lara_data.specs.TreeSizes.{nodes}
+use Rattle.lara_data.proofs.SizeEquations.{nodes_Join, nodes_Union, nodes_Agg}
 use Rattle.lara_assoc.proofs.trees.+table_of.Goals as goal
 
 pub total-requires : goal.total-requires

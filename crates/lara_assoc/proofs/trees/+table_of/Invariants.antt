@@ -1,4 +1,4 @@
-use Rattle.lara_assoc.proofs.TreeSizes.{nodes}
+use Rattle.lara_data.specs.TreeSizes.{nodes}
 use Rattle.lara_assoc.proofs.trees.+table_of.Given as goal
 
 -- the nodes of the tree
