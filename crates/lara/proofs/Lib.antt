@@ -1,3 +1,4 @@
+pub mod ArgumentFacts
 pub mod Chains
 pub mod Limits
 pub mod NoTables

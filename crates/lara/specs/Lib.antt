@@ -1,4 +1,5 @@
 pub mod Endings
+pub mod Invocations
 pub mod Lines
 pub mod Prints
 pub mod Ruling

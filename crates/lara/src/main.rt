@@ -6,7 +6,9 @@
 
 mod answer;
 mod arguments;
+mod call;
 mod input;
+mod invocation;
 mod line;
 mod outcome;
 mod output;
@@ -17,6 +19,8 @@ mod top;
 mod words;
 
 use arguments::arguments;
+use call::call;
+use invocation::SystemInvocation;
 use lara_base::{StderrSink, StdinSource, StdoutSink};
 pub use outcome::{Outcome, Room, TripleKind};
 use std::process::ExitCode;
@@ -24,28 +28,21 @@ pub use top::lara;
 
 fn main(rt: HostRuntime) -> ExitCode {
     let alloc = rt.alloc();
-    let mut input = StdinSource::new(rt.stdin());
-    let mut out = StdoutSink::new(rt.stdout());
-    let mut err = StderrSink::new(rt.stderr());
-    let outcome = match arguments(alloc, &rt) {
-        Ok(words) => lara(
-            alloc,
-            &words,
-            &mut input,
-            &mut out,
-            &mut err,
-            &Vec::new(alloc),
-        ),
-        Err(_) => {
-            report::report(&mut err, Outcome::Memory);
-            Outcome::Memory
-        }
-    };
-    ExitCode::from(outcome.status())
+    let outcome = call(
+        alloc,
+        arguments(alloc, &SystemInvocation::new(&rt)),
+        &mut StdinSource::new(rt.stdin()),
+        &mut StdoutSink::new(rt.stdout()),
+        &mut StderrSink::new(rt.stderr()),
+        &Vec::new(alloc),
+    );
+    outcome.exit_code()
 }
 
 #[cfg(test)]
 mod tests;
+#[cfg(test)]
+mod tests_arguments;
 #[cfg(test)]
 mod tests_operators;
 #[cfg(test)]

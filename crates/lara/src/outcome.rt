@@ -5,6 +5,7 @@ ghost use Rattle.lara.specs.declared.outcome.Outcome.TheVariants.{Memory};
 use lara_base::FileName;
 use lara_syntax::Kind;
 use std::alloc::{AllocError, AllocFailed};
+use std::process::ExitCode;
 
 /// How a call ends. All but `Done` have one line on the error stream, and each has its exit status.
 #[derive(Clone, Copy, Debug, PartialEq, Eq)]
@@ -52,6 +53,7 @@ pub enum Room {
 
 impl Outcome {
     ghost use Rattle.std.specs.Prelude.{◌≡◌};
+    ghost use Rattle.std.specs.Process.{exit_status};
     ghost use Rattle.lara.specs.Statuses.{status_of};
 
     /// The exit status.
@@ -72,6 +74,13 @@ impl Outcome {
             Outcome::Full { .. } => 10,
             Outcome::Memory => 11,
         }
+    }
+
+    /// What a process ends with that has this outcome.
+    pub fn exit_code(self) -> ExitCode
+        ensures { exit_status result ≡ status_of self }
+    {
+        ExitCode::from(self.status())
     }
 }
 

@@ -5,6 +5,7 @@ use crate::{Outcome, lara};
 use lara_base::{Bytes, List, MemSink, MemSource, Word};
 use lara_syntax::Kind;
 use std::alloc::{AllocError, Global};
+use std::process::ExitCode;
 use std::test::Fail;
 
 /// What a call gave: its outcome, and the bytes on `out` and on `err`.
@@ -30,7 +31,8 @@ pub const NONE: Fails = Fails {
     err: 0,
 };
 
-fn words_of(alloc: Global, words: &[&[u8]]) -> Result<List<Word>, AllocError> {
+/// The words of these bytes.
+pub fn words_of(alloc: Global, words: &[&[u8]]) -> Result<List<Word>, AllocError> {
     let mut list = List::new(alloc);
     for word in words {
         list.push(List::from_slice(alloc, word)?)?;
@@ -361,5 +363,6 @@ fn statuses_stand_in_their_order(rt: HostRuntime) {
         (Outcome::Memory, 11),
     ] {
         assert_eq!(rt; outcome.status(), status);
+        assert_eq!(rt; outcome.exit_code(), ExitCode::from(status));
     }
 }

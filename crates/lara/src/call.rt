@@ -1,0 +1,60 @@
+//! The top call for words that may have found no memory.
+ghost use Rattle.std.specs.Prelude.{IsOk, IsErr, ◌≡◌, ◌⊎◌, ℕ, List, Some, Ok, IfOk};
+ghost use Rattle.std.specs.Io.KnownBytes.{IsAtEnd};
+ghost use Rattle.lara_base.specs.Causes.{Rose};
+ghost use Rattle.lara_base.specs.Moves.{Adds, AddsFront, ReadsWithin};
+ghost use Rattle.lara.specs.Words.{command_of, ReadsInput};
+ghost use Rattle.lara.specs.Ruling.{ruling, text_of};
+ghost use Rattle.lara.specs.Endings.{Quiet, CanCome, Exactly, UsageExactly};
+ghost use Rattle.lara.specs.Lines.{line_of};
+ghost use Rattle.lara_data.specs.declared.refusal.Kind.{Kind};
+ghost use Rattle.lara_data.specs.Plugins.{handed};
+
+use crate::outcome::Outcome;
+use crate::report::report;
+use crate::top::lara;
+use lara_base::{List, Sink, Source, Word};
+use lara_data::Plugin;
+use std::alloc::{AllocError, Global};
+
+/// Calls `lara` with the words. Where they found no memory, that alone is reported.
+pub fn call<S: Source, O: Sink, E: Sink>(
+    alloc: Global,
+    words: Result<List<Word>, AllocError>,
+    input: &mut S,
+    out: &mut O,
+    err: &mut E,
+    plugins: &Vec<Box<dyn Plugin>>,
+) -> Outcome
+    // Without words: want of memory, and `input` and `out` are as they were.
+    ensures no_words { IsErr words → result ≡ Outcome.Memory }
+    ensures no_words_input { IsErr words → input.new ≡ input.old }
+    ensures no_words_out { IsErr words → out.new ≡ out.old }
+
+    // Else, and of `err` always, the clauses of `lara`.
+    ensures done_read { IfOk words (λ words. result ≡ Outcome.Done → ReadsInput (command_of words) → IsAtEnd (S.left input.new)) }
+    ensures done_text { (bytes text : List ℕ) → S.left input.old ≡ Some bytes → IfOk words (λ words. result ≡ Outcome.Done → ruling (handed ⟦<dyn Plugin as Plugin>⟧ plugins.now.items) words bytes ≡ Ok text → Adds (O.held out.old) (O.held out.new) text) }
+    ensures done_only { (bytes : List ℕ) → S.left input.old ≡ Some bytes → IfOk words (λ words. result ≡ Outcome.Done → IsOk (ruling (handed ⟦<dyn Plugin as Plugin>⟧ plugins.now.items) words bytes)) }
+    ensures done_line { result ≡ Outcome.Done → err.new ≡ err.old }
+    ensures reads_most { ReadsWithin (S.left input.old) (S.left input.new) 1048577 }
+    ensures unread { IfOk words (λ words. ¬ (ReadsInput (command_of words)) → input.new ≡ input.old) }
+    ensures other_nothing { Quiet (O.held out.new ≡ O.held out.old) result }
+    ensures other_front { (bytes : List ℕ) → S.left input.old ≡ Some bytes → IfOk words (λ words. AddsFront (O.held out.old) (O.held out.new) (text_of (ruling (handed ⟦<dyn Plugin as Plugin>⟧ plugins.now.items) words bytes))) }
+    ensures other_line { AddsFront (E.held err.old) (E.held err.new) (line_of result) }
+    ensures other_whole_line { ¬ (Rose (E.faults err.old) (E.faults err.new)) → Adds (E.held err.old) (E.held err.new) (line_of result) }
+    ensures can_come { CanCome result }
+    ensures usage { IfOk words (λ words. UsageExactly (command_of words) result) }
+    ensures script { (bytes : List ℕ) (at : ℕ) (kind : Kind) → S.left input.old ≡ Some bytes → IfOk words (λ words. Exactly (ruling (handed ⟦<dyn Plugin as Plugin>⟧ plugins.now.items) words bytes) (Outcome.Script at kind) result) }
+    ensures range { (bytes : List ℕ) (statement : ℕ) → S.left input.old ≡ Some bytes → IfOk words (λ words. Exactly (ruling (handed ⟦<dyn Plugin as Plugin>⟧ plugins.now.items) words bytes) (Outcome.Range statement) result) }
+    ensures source_fault { result ≡ Outcome.SourceFault → Rose (S.faults input.old) (S.faults input.new) }
+    ensures sink_fault { result ≡ Outcome.SinkFault → Rose (O.faults out.old) (O.faults out.new) }
+    ensures complete { (bytes : List ℕ) → S.left input.old ≡ Some bytes → IfOk words (λ words. IsOk (ruling (handed ⟦<dyn Plugin as Plugin>⟧ plugins.now.items) words bytes) → ¬ (Rose (S.faults input.old) (S.faults input.new)) → ¬ (Rose (O.faults out.old) (O.faults out.new)) → (result ≡ Outcome.Done) ⊎ (result ≡ Outcome.Memory)) }
+{
+    match words {
+        Ok(words) => lara(alloc, &words, input, out, err, plugins),
+        Err(_) => {
+            report(err, Outcome::Memory);
+            Outcome::Memory
+        }
+    }
+}
