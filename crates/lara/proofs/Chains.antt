@@ -2,8 +2,8 @@
 use Rattle.std.specs.Prelude.{◌≡◌, ℕ, Result, Ok, Err}
 use Rattle.lara.specs.declared.outcome.Outcome.{Outcome}
 use Rattle.lara.specs.declared.outcome.Outcome.TheVariants.{Done, Usage, Script, Triples, Choice, Range, Damaged, DepotFault, SourceFault, SinkFault, Full, Memory}
-use Rattle.lara.specs.Stops.{Stop, Reaches}
-use Rattle.lara_types.specs.Steps.{◌>>=◌}
+use Rattle.lara.specs.Stops.{Stop, Reaches, at_input}
+use Rattle.lara_base.specs.Results.{◌>>=◌}
 use Rattle.lara.specs.Endings.{Device, no_fault, causes, StopsWith, Stopped, Gives}
 
 -- a stop of a step is a stop of what begins with it
@@ -47,7 +47,7 @@ gives_then view rose r x f (Ok y) e g = rw e g
 gives_then view rose r x f (Err o) e g = rw e (stopped_any rose (f x) o g)
 
 -- a stop of a step that meets the source is a stop of what begins with it, where that reaches the reading
-pub stopped_source_then : {A B : Type 0} (rose : Type 0) (r : Result A Stop) (f : A → Result B Stop) (o : Outcome) → Reaches 2 (r >>= f) → Stopped (causes ⊥ rose ⊥) r o → Stopped (causes ⊥ rose ⊥) (r >>= f) o
+pub stopped_source_then : {A B : Type 0} (rose : Type 0) (r : Result A Stop) (f : A → Result B Stop) (o : Outcome) → Reaches at_input (r >>= f) → Stopped (causes ⊥ rose ⊥) r o → Stopped (causes ⊥ rose ⊥) (r >>= f) o
 stopped_source_then rose r f Done reach s = s
 stopped_source_then rose r f (Usage at) reach s = stops_then r f (Usage at) s
 stopped_source_then rose r f (Script at kind) reach s = stops_then r f (Script at kind) s

@@ -4,7 +4,7 @@ use Rattle.std.proofs.lemmas.List.{take_all}
 use Rattle.std.proofs.lemmas.Bool.Decides.{nat_tests}
 use Rattle.lara.specs.declared.outcome.Outcome.TheVariants.{Script}
 use Rattle.lara_data.specs.declared.refusal.Kind.TheVariants.{TooLong}
-use Rattle.lara.specs.Scripts.{within}
+use Rattle.lara.specs.ScriptBytes.{within}
 use Rattle.lara.specs.Endings.{StopsWith}
 
 pub within_long : (bytes v : List ℕ) → v ≡ take 1048577 bytes → 1048576 < length v → StopsWith (within bytes) (Script 1048576 TooLong)

@@ -2,19 +2,19 @@
 use Rattle.std.specs.Prelude.{◌≡◌, ◌⊎◌, ℕ, Result, Ok, Err, IsOk}
 use Rattle.lara.specs.declared.outcome.Outcome.{Outcome}
 use Rattle.lara.specs.declared.outcome.Outcome.TheVariants.{Done, Usage, Script, Triples, Choice, Range, Damaged, DepotFault, SourceFault, SinkFault, Full, Memory}
-use Rattle.lara.specs.Stops.{Stop, Reaches}
+use Rattle.lara.specs.Stops.{Stop, Reaches, at_input, at_depot, at_output}
 
--- which devices have a fault to show
+-- the devices of a run
 pub data Device : Type 0 where
   depot : Device
   source : Device
   sink : Device
 
--- no device has
+-- no device has a fault to show
 abbrev pub no_fault : Device → Type 0
 no_fault device = ⊥
 
--- these devices have: their counts rose
+-- these devices have one: their counts rose
 abbrev pub causes : (depot_rose source_rose sink_rose : Type 0) → Device → Type 0
 causes d s o depot = d
 causes d s o source = s
@@ -30,9 +30,9 @@ by_kind answer refusal memory fault (Triples row kind) = refusal
 by_kind answer refusal memory fault (Choice index) = refusal
 by_kind answer refusal memory fault (Range statement) = refusal
 by_kind answer refusal memory fault (Damaged file at) = refusal
-by_kind answer refusal memory fault DepotFault = fault depot 4
-by_kind answer refusal memory fault SourceFault = fault source 2
-by_kind answer refusal memory fault SinkFault = fault sink 12
+by_kind answer refusal memory fault DepotFault = fault depot at_depot
+by_kind answer refusal memory fault SourceFault = fault source at_input
+by_kind answer refusal memory fault SinkFault = fault sink at_output
 by_kind answer refusal memory fault (Full what) = refusal
 by_kind answer refusal memory fault Memory = memory
 

@@ -3,7 +3,7 @@ pub mod Invocations
 pub mod Lines
 pub mod Prints
 pub mod Ruling
-pub mod Scripts
+pub mod ScriptBytes
 pub mod Statuses
 pub mod Stops
 pub mod TableTexts

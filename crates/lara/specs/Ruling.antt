@@ -3,18 +3,19 @@ use Rattle.std.specs.Prelude.{ℕ, List, [], Option, Some, None, Result, Ok, Err
 use Rattle.lara_data.specs.Denotations.{Printed, denotation}
 use Rattle.lara_data.specs.Plugins.{Plugins}
 use Rattle.lara_types.specs.Checks.{checked}
-use Rattle.lara_types.specs.Steps.{◌>>=◌}
+use Rattle.lara_base.specs.Results.{◌>>=◌}
 use Rattle.lara.specs.declared.words.Command.{Command}
 use Rattle.lara.specs.declared.words.Command.TheVariants.{Run}
 use Rattle.lara.specs.declared.outcome.Outcome.TheVariants.{Range}
-use Rattle.lara.specs.Stops.{Stop, stop}
+use Rattle.lara.specs.Stops.{Stop, stop, at_types, at_range}
 use Rattle.lara.specs.Words.{command_of}
-use Rattle.lara.specs.Scripts.{within, tree_of, at_step}
+use Rattle.lara.specs.ScriptBytes.{within, tree_of, at_step}
 use Rattle.lara.specs.Prints.{first_over, texts}
 
+-- the prints, or the stop at this statement, which prints what is past its range
 abbrev pub ranged : List Printed → Option ℕ → Result (List Printed) Stop
 ranged prints None = Ok prints
-ranged prints (Some statement) = stop 10 (Range statement)
+ranged prints (Some statement) = stop at_range (Range statement)
 
 -- the prints, where each table that is printed is in range
 abbrev pub in_range : List Printed → Result (List Printed) Stop
@@ -30,7 +31,7 @@ prints_text prints = do
 unfoldable pub script_ruling : Plugins → List ℕ → Result (List ℕ) Stop
 script_ruling ps bytes = do
   tree ← tree_of bytes
-  statements ← at_step 6 (checked [] tree)
+  statements ← at_step at_types (checked [] tree)
   prints_text (denotation ps [] statements).prints
 
 -- the ruling on an input, which is a script within the limit
@@ -39,9 +40,11 @@ run_ruling ps input = do
   bytes ← within input
   script_ruling ps bytes
 
+-- the ruling on a command and its input
 abbrev pub command_ruling : Plugins → Command → List ℕ → Result (List ℕ) Stop
 command_ruling ps Run input = run_ruling ps input
 
+-- the ruling on the words and the input of a call
 unfoldable pub ruling : Plugins → List (List ℕ) → List ℕ → Result (List ℕ) Stop
 ruling ps words input = do
   command ← command_of words

@@ -3,6 +3,7 @@ use Rattle.std.specs.Prelude.{ℕ}
 use Rattle.lara.specs.declared.outcome.Outcome.{Outcome}
 use Rattle.lara.specs.declared.outcome.Outcome.TheVariants.{Done, Usage, Script, Triples, Choice, Range, Damaged, DepotFault, SourceFault, SinkFault, Full, Memory}
 
+-- the exit status; only Done has 0
 abbrev pub status_of : Outcome → ℕ
 status_of Done = 0
 status_of (Usage at) = 1

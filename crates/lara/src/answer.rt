@@ -4,7 +4,8 @@ ghost use Rattle.lara_data.specs.Plugins.{handed};
 ghost use Rattle.lara_data.specs.Fits.{ScriptFits};
 ghost use Rattle.lara_data.specs.Denotations.{denotation};
 ghost use Rattle.lara_types.specs.Checks.{checked};
-ghost use Rattle.lara.specs.Scripts.{tree_of, at_step, outcome_of_fault};
+ghost use Rattle.lara.specs.Stops.{at_types};
+ghost use Rattle.lara.specs.ScriptBytes.{tree_of, at_step, outcome_of_fault};
 ghost use Rattle.lara.specs.Ruling.{script_ruling};
 ghost use Rattle.lara.specs.Endings.{Gives, StopsScript, no_fault};
 ghost use Rattle.lara.specs.declared.outcome.Outcome.TheVariants.{Memory};
@@ -13,8 +14,8 @@ use crate::outcome::Outcome;
 use crate::prints::prints_text;
 use lara_assoc::{Answers, eval};
 use lara_base::{Bytes, List};
-use lara_data::{Plugin, Script};
-use lara_syntax::{Ast, ReadFault, parse};
+use lara_data::{Plugin, ReadFault, Script};
+use lara_syntax::{Ast, parse};
 use lara_types::check;
 use std::alloc::Global;
 
@@ -43,7 +44,7 @@ fn read_tree(alloc: Global, script: &[u8]) -> Result<Ast, Outcome>
 
 // The typed script of a tree, over no stored tables.
 fn read_types(alloc: Global, tree: &Ast, plugins: &Vec<Box<dyn Plugin>>) -> Result<Script, Outcome>
-    ensures gives { Gives (λ statements. statements) no_fault (at_step 6 (checked [] tree.now)) result }
+    ensures gives { Gives (λ statements. statements) no_fault (at_step at_types (checked [] tree.now)) result }
     ensures few { IfOk result (λ statements. length statements ≡ length tree.now.statements) }
     ensures fits { IfOk result (ScriptFits (handed ⟦<dyn Plugin as Plugin>⟧ plugins.now.items) []) }
     ensures stops { IfErr result StopsScript }
@@ -52,7 +53,7 @@ fn read_types(alloc: Global, tree: &Ast, plugins: &Vec<Box<dyn Plugin>>) -> Resu
 }
 
 // What a typed script prints and stores, over no stored tables.
-fn evaluate(
+fn plain_answers(
     alloc: Global,
     script: &Script,
     plugins: &Vec<Box<dyn Plugin>>,
@@ -78,6 +79,6 @@ pub fn answer(
 {
     let tree = read_tree(alloc, script)?;
     let script = read_types(alloc, &tree, plugins)?;
-    let answers = evaluate(alloc, &script, plugins)?;
+    let answers = plain_answers(alloc, &script, plugins)?;
     prints_text(alloc, &answers.prints)
 }

@@ -3,13 +3,13 @@ ghost use Rattle.std.specs.Prelude.{◌≡◌, ◌≤◌, ◌<◌, ◌+◌, ◌^
 ghost use Rattle.std.specs.Io.KnownBytes.{IsAtEnd};
 ghost use Rattle.lara_base.specs.Causes.{HasCause, Rose};
 ghost use Rattle.lara_base.specs.Moves.{Takes, ReadsWithin};
-ghost use Rattle.lara.specs.Scripts.{within};
+ghost use Rattle.lara.specs.ScriptBytes.{within};
 ghost use Rattle.lara.specs.Endings.{Gives, Caused, CanCome, IsUsage, causes};
 ghost use Rattle.lara.specs.declared.input.InputFault.TheVariants.{Memory};
 
 use crate::outcome::Outcome;
 use lara_base::{Bytes, List, Source};
-use lara_syntax::Kind;
+use lara_data::Kind;
 use std::alloc::{AllocError, Global};
 use thiserror::Error;
 

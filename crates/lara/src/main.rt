@@ -46,6 +46,10 @@ mod tests_arguments;
 #[cfg(test)]
 mod tests_operators;
 #[cfg(test)]
+mod tests_plugins;
+#[cfg(test)]
 mod tests_random;
+#[cfg(test)]
+mod tests_stored;
 #[cfg(test)]
 mod tests_tables;

@@ -3,8 +3,8 @@ ghost use Rattle.std.specs.Prelude.{◌≡◌};
 ghost use Rattle.lara.specs.declared.outcome.Outcome.TheVariants.{Memory};
 
 use lara_base::FileName;
-use lara_syntax::Kind;
-use std::alloc::{AllocError, AllocFailed};
+use lara_data::Kind;
+use std::alloc::AllocError;
 use std::process::ExitCode;
 
 /// How a call ends. All but `Done` have one line on the error stream, and each has its exit status.
@@ -24,8 +24,11 @@ pub enum Outcome {
     Range { statement: u32 },
     /// A file is not in its grammar.
     Damaged { file: FileName, at: u64 },
+    /// The stored tables could not be read or written.
     DepotFault,
+    /// The input could not be read to its end.
     SourceFault,
+    /// The text could not be written to its end; a front of it may have been.
     SinkFault,
     /// There is no room for what is to be stored.
     Full { what: Room },
@@ -88,14 +91,6 @@ impl From<AllocError> for Outcome {
     ghost from_gives = { λ _ o. o ≡ Memory };
 
     fn from(_: AllocError) -> Outcome {
-        Outcome::Memory
-    }
-}
-
-impl<T: Drop> From<AllocFailed<T>> for Outcome {
-    ghost from_gives = { λ _ o. o ≡ Memory };
-
-    fn from(_: AllocFailed<T>) -> Outcome {
         Outcome::Memory
     }
 }

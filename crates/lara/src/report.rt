@@ -8,7 +8,7 @@ use crate::line::Line;
 use crate::outcome::{Outcome, Room, TripleKind};
 use crate::output::write_whole;
 use lara_base::{FileName, Sink};
-use lara_syntax::Kind;
+use lara_data::Kind;
 
 fn kind_text(kind: Kind) -> &'static [u8]
     ensures text { result.now ≡ kind_text kind }

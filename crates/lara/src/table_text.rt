@@ -6,10 +6,9 @@ ghost use Rattle.lara.specs.TableTexts.{joined, number_text, key_text, value_tex
 use itoa::Buffer;
 use lara_assoc::Assoc;
 use lara_base::{Bytes, List, Name};
-use lara_data::Entry;
+use lara_data::{Entry, KeyCol, TableType, ValCol};
 use lara_key::{KeyType, KeyVal, Tuple};
 use lara_semiring::{Row, ValType, Value};
-use lara_syntax::{KeyCol, TableType, ValCol};
 use std::alloc::{AllocError, Global};
 
 // Adds a number in decimal.
@@ -240,7 +239,7 @@ pub fn add_table_text(
 ) -> Result<(), AllocError>
     ensures { OnOk result (text.new ≡ text.old ++ table_text name.now order.now table.now) }
 {
-    let cells = table.stored(alloc, order)?;
+    let cells = table.entries_by(alloc, order)?;
     add_head(text, name, order, table.ty())?;
     for cell in cells.as_slice() {
         add_cell(text, cell)?;

@@ -1,9 +1,10 @@
 //! Whole calls over the forms in memory: worked examples with their exact bytes, and every call of a device failing.
 ghost use Rattle.std.specs.Prelude.{◌≤◌};
 
-use crate::{Outcome, lara};
-use lara_base::{Bytes, List, MemSink, MemSource, Word};
-use lara_syntax::Kind;
+use crate::report::report;
+use crate::{Outcome, Room, TripleKind, lara};
+use lara_base::{Bytes, FileName, List, MemSink, MemSource, Word};
+use lara_data::Kind;
 use std::alloc::{AllocError, Global};
 use std::process::ExitCode;
 use std::test::Fail;
@@ -73,44 +74,75 @@ pub fn script(at: u32, kind: Kind) -> Outcome {
 
 const REPEATED: &[u8] = b"T = table [i: nat : v: count] { 1 : 3; 1 : 4 }; print T by i;";
 
-#[test]
-fn worked_examples(rt: HostRuntime) -> Result<(), Fail> {
-    for (text, want) in [
-        (b"".as_slice(), b"".as_slice()),
-        (REPEATED, b"T[i: nat : v: count]\n1:7\nend 1\n".as_slice()),
-        (
-            b"T = table [i: nat : v: count] { 1 : 0 }; print T by i;".as_slice(),
-            b"T[i: nat : v: count]\nend 0\n".as_slice(),
-        ),
-        (
-            b"T = table [i: nat : v: count] { 1 : 18446744073709551614 }; print T;".as_slice(),
-            b"T[i: nat : v: count]\n1:18446744073709551614\nend 1\n".as_slice(),
-        ),
-        (
-            b"A = table [i: nat, k: nat : v: count] { 1,1:2; 1,2:3; 0,2:5 };\n# two orders\nprint A; print A by k, i;".as_slice(),
-            b"A[i: nat, k: nat : v: count]\n0,2:5\n1,1:2\n1,2:3\nend 3\nA[k: nat, i: nat : v: count]\n1,1:2\n2,0:5\n2,1:3\nend 3\n".as_slice(),
-        ),
-        (
-            b"S = table [: v: count, w: count] { :1,0; :2,5; }; print S;".as_slice(),
-            b"S[: v: count, w: count]\n:3,5\nend 1\n".as_slice(),
-        ),
-        (
-            b"T = table [i: nat : v: count] { 1 : 1 }; T = table [: w: count] {}; print T by;".as_slice(),
-            b"T[: w: count]\nend 0\n".as_slice(),
-        ),
-    ] {
-        for piece in [1, 4096] {
-            let got = ran(rt.alloc(), &[b"run"], text, piece, &NONE)?;
-            assert_eq!(rt; got.outcome, Outcome::Done);
-            assert_eq!(rt; got.out.bytes().as_slice(), want);
-            assert_eq!(rt; got.err.bytes().as_slice(), b"".as_slice());
+/// Whether a script prints this, in whatever pieces it is read and written.
+pub fn prints(alloc: Global, text: &[u8], want: &[u8]) -> Result<bool, AllocError> {
+    for piece in [1, 4096] {
+        let got = ran(alloc, &[b"run"], text, piece, &NONE)?;
+        let is_done = got.outcome == Outcome::Done && got.err.bytes().is_empty();
+        if !is_done || got.out.bytes().as_slice() != want {
+            return Ok(false);
         }
     }
+    Ok(true)
+}
+
+#[test]
+fn an_empty_script_prints_nothing(rt: HostRuntime) -> Result<(), Fail> {
+    assert!(rt; prints(rt.alloc(), b"", b"")?);
     Ok(())
 }
 
 #[test]
-fn other_endings(rt: HostRuntime) -> Result<(), Fail> {
+fn repeated_key_adds_up(rt: HostRuntime) -> Result<(), Fail> {
+    let want = b"T[i: nat : v: count]\n1:7\nend 1\n";
+    assert!(rt; prints(rt.alloc(), REPEATED, want)?);
+    Ok(())
+}
+
+#[test]
+fn zero_sum_is_no_cell(rt: HostRuntime) -> Result<(), Fail> {
+    let text = b"T = table [i: nat : v: count] { 1 : 0 }; print T by i;";
+    let want = b"T[i: nat : v: count]\nend 0\n";
+    assert!(rt; prints(rt.alloc(), text, want)?);
+    Ok(())
+}
+
+#[test]
+fn the_greatest_count_is_printed(rt: HostRuntime) -> Result<(), Fail> {
+    let text = b"T = table [i: nat : v: count] { 1 : 18446744073709551614 }; print T;";
+    let want = b"T[i: nat : v: count]\n1:18446744073709551614\nend 1\n";
+    assert!(rt; prints(rt.alloc(), text, want)?);
+    Ok(())
+}
+
+#[test]
+fn each_print_has_its_order(rt: HostRuntime) -> Result<(), Fail> {
+    let text =
+        b"A = table [i: nat, k: nat : v: count] { 1,1:2; 1,2:3; 0,2:5 };\n# two orders\nprint A; print A by k, i;";
+    let want =
+        b"A[i: nat, k: nat : v: count]\n0,2:5\n1,1:2\n1,2:3\nend 3\nA[k: nat, i: nat : v: count]\n1,1:2\n2,0:5\n2,1:3\nend 3\n";
+    assert!(rt; prints(rt.alloc(), text, want)?);
+    Ok(())
+}
+
+#[test]
+fn a_table_without_keys_has_one_row(rt: HostRuntime) -> Result<(), Fail> {
+    let text = b"S = table [: v: count, w: count] { :1,0; :2,5; }; print S;";
+    let want = b"S[: v: count, w: count]\n:3,5\nend 1\n";
+    assert!(rt; prints(rt.alloc(), text, want)?);
+    Ok(())
+}
+
+#[test]
+fn the_newest_table_of_a_name_is_printed(rt: HostRuntime) -> Result<(), Fail> {
+    let text = b"T = table [i: nat : v: count] { 1 : 1 }; T = table [: w: count] {}; print T by;";
+    let want = b"T[: w: count]\nend 0\n";
+    assert!(rt; prints(rt.alloc(), text, want)?);
+    Ok(())
+}
+
+#[test]
+fn wrong_words_and_large_sums_end_with_their_line(rt: HostRuntime) -> Result<(), Fail> {
     let over =
         b"T = table [i: nat : v: count] { 1 : 9223372036854775808; 1 : 9223372036854775808 }; print T;";
     for (words, text, want, line) in [
@@ -148,7 +180,7 @@ fn other_endings(rt: HostRuntime) -> Result<(), Fail> {
 }
 
 #[test]
-fn refused_scripts(rt: HostRuntime) -> Result<(), Fail> {
+fn broken_scripts_are_refused_at_their_place(rt: HostRuntime) -> Result<(), Fail> {
     for (text, want) in [
         // words
         (b"print T;".as_slice(), script(6, Kind::NoName)),
@@ -351,15 +383,188 @@ fn a_long_script_is_read_one_byte_past_the_limit(rt: HostRuntime) -> Result<(), 
     Ok(())
 }
 
+// Whether this is the line of an outcome.
+fn tells(alloc: Global, outcome: Outcome, want: &[u8]) -> bool {
+    let mut err = MemSink::new(alloc, 7, List::new(alloc));
+    report(&mut err, outcome);
+    err.bytes().as_slice() == want
+}
+
+#[test]
+fn each_outcome_has_its_line(rt: HostRuntime) {
+    let alloc = rt.alloc();
+    for (outcome, want) in [
+        (Outcome::Done, b"".as_slice()),
+        (
+            Outcome::Triples {
+                row: 7,
+                kind: TripleKind::TooLong,
+            },
+            b"lara: row 7: TooLong\n".as_slice(),
+        ),
+        (
+            Outcome::Triples {
+                row: 8,
+                kind: TripleKind::FieldCount,
+            },
+            b"lara: row 8: FieldCount\n".as_slice(),
+        ),
+        (
+            Outcome::Triples {
+                row: 9,
+                kind: TripleKind::BadNumber,
+            },
+            b"lara: row 9: BadNumber\n".as_slice(),
+        ),
+        (
+            Outcome::Triples {
+                row: 10,
+                kind: TripleKind::BadFlag,
+            },
+            b"lara: row 10: BadFlag\n".as_slice(),
+        ),
+        (
+            Outcome::Triples {
+                row: 11,
+                kind: TripleKind::NotInRange,
+            },
+            b"lara: row 11: NotInRange\n".as_slice(),
+        ),
+        (
+            Outcome::Choice { index: 3 },
+            b"lara: choice 3 does not apply\n".as_slice(),
+        ),
+        (
+            Outcome::Damaged {
+                file: FileName::Catalog,
+                at: 9,
+            },
+            b"lara: file catalog is damaged at 9\n".as_slice(),
+        ),
+        (
+            Outcome::Damaged {
+                file: FileName::Cells {
+                    generation: 2,
+                    number: 5,
+                },
+                at: 18446744073709551615,
+            },
+            b"lara: file cells-2-5 is damaged at 18446744073709551615\n".as_slice(),
+        ),
+        (Outcome::DepotFault, b"lara: the depot failed\n".as_slice()),
+        (Outcome::SourceFault, b"lara: the input failed\n".as_slice()),
+        (
+            Outcome::Full {
+                what: Room::Generation,
+            },
+            b"lara: no room: generation\n".as_slice(),
+        ),
+        (
+            Outcome::Full { what: Room::Tables },
+            b"lara: no room: tables\n".as_slice(),
+        ),
+        (
+            Outcome::Full {
+                what: Room::Tablets,
+            },
+            b"lara: no room: tablets\n".as_slice(),
+        ),
+    ] {
+        assert!(rt; tells(alloc, outcome, want));
+    }
+}
+
+#[test]
+fn each_kind_has_its_line(rt: HostRuntime) {
+    let alloc = rt.alloc();
+    for (kind, want) in [
+        (Kind::BadByte, b"lara: script byte 5: BadByte\n".as_slice()),
+        (
+            Kind::BadNumber,
+            b"lara: script byte 5: BadNumber\n".as_slice(),
+        ),
+        (Kind::BadText, b"lara: script byte 5: BadText\n".as_slice()),
+        (
+            Kind::Unexpected,
+            b"lara: script byte 5: Unexpected\n".as_slice(),
+        ),
+        (Kind::TooLong, b"lara: script byte 5: TooLong\n".as_slice()),
+        (Kind::TooMany, b"lara: script byte 5: TooMany\n".as_slice()),
+        (Kind::NoTable, b"lara: script byte 5: NoTable\n".as_slice()),
+        (Kind::NoName, b"lara: script byte 5: NoName\n".as_slice()),
+        (
+            Kind::NameTwice,
+            b"lara: script byte 5: NameTwice\n".as_slice(),
+        ),
+        (
+            Kind::TooManyColumns,
+            b"lara: script byte 5: TooManyColumns\n".as_slice(),
+        ),
+        (
+            Kind::NotInRange,
+            b"lara: script byte 5: NotInRange\n".as_slice(),
+        ),
+        (
+            Kind::TypesDiffer,
+            b"lara: script byte 5: TypesDiffer\n".as_slice(),
+        ),
+        (
+            Kind::NoCommonValue,
+            b"lara: script byte 5: NoCommonValue\n".as_slice(),
+        ),
+        (Kind::NotAKey, b"lara: script byte 5: NotAKey\n".as_slice()),
+        (
+            Kind::NotAnOrder,
+            b"lara: script byte 5: NotAnOrder\n".as_slice(),
+        ),
+        (
+            Kind::NoPlugin,
+            b"lara: script byte 5: NoPlugin\n".as_slice(),
+        ),
+        (
+            Kind::PluginRefuses,
+            b"lara: script byte 5: PluginRefuses\n".as_slice(),
+        ),
+    ] {
+        assert!(rt; tells(alloc, script(5, kind), want));
+    }
+}
+
+fn from_memory<T: From<AllocError>>() -> T {
+    T::from(AllocError)
+}
+
+#[test]
+fn want_of_memory_is_an_outcome(rt: HostRuntime) {
+    assert_eq!(rt; from_memory::<Outcome>(), Outcome::Memory);
+}
+
 #[test]
 fn statuses_stand_in_their_order(rt: HostRuntime) {
     for (outcome, status) in [
         (Outcome::Done, 0),
         (Outcome::Usage { at: 9 }, 1),
         (script(9, Kind::BadByte), 2),
+        (
+            Outcome::Triples {
+                row: 9,
+                kind: TripleKind::BadFlag,
+            },
+            3,
+        ),
+        (Outcome::Choice { index: 9 }, 4),
         (Outcome::Range { statement: 9 }, 5),
+        (
+            Outcome::Damaged {
+                file: FileName::Catalog,
+                at: 9,
+            },
+            6,
+        ),
+        (Outcome::DepotFault, 7),
         (Outcome::SourceFault, 8),
         (Outcome::SinkFault, 9),
+        (Outcome::Full { what: Room::Tables }, 10),
         (Outcome::Memory, 11),
     ] {
         assert_eq!(rt; outcome.status(), status);

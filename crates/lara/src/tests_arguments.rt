@@ -81,3 +81,27 @@ fn without_words_a_call_is_out_of_memory(rt: HostRuntime) -> Result<(), Fail> {
     assert_eq!(rt; err.bytes().as_slice(), b"lara: out of memory\n".as_slice());
     Ok(())
 }
+
+#[test]
+fn with_words_a_call_is_that_of_lara(rt: HostRuntime) -> Result<(), Fail> {
+    let alloc = rt.alloc();
+    let text = List::from_slice(alloc, b"T = table [: v: count] { :4 }; print T;")?;
+    let mut input = MemSource::new(text, 9, List::new(alloc));
+    let mut out = MemSink::new(alloc, 9, List::new(alloc));
+    let mut err = MemSink::new(alloc, 9, List::new(alloc));
+    let outcome = call(
+        alloc,
+        words_of(alloc, &[b"run"]),
+        &mut input,
+        &mut out,
+        &mut err,
+        &Vec::new(alloc),
+    );
+    assert_eq!(rt; outcome, Outcome::Done);
+    assert_eq!(rt;
+        out.bytes().as_slice(),
+        b"T[: v: count]\n:4\nend 1\n".as_slice()
+    );
+    assert!(rt; err.bytes().is_empty());
+    Ok(())
+}

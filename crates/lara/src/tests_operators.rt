@@ -2,53 +2,76 @@
 //! type rules with its place and kind worked out by hand.
 
 use crate::Outcome;
-use crate::tests::{NONE, ran, script};
-use lara_syntax::Kind;
+use crate::tests::{NONE, prints, ran, script};
+use lara_data::Kind;
 use std::test::Fail;
 
 #[test]
-fn worked_operators(rt: HostRuntime) -> Result<(), Fail> {
-    for (text, want) in [
-        (
-            b"A = table [i: nat, k: nat : v: count] { 1,1:2; 1,2:3 };\nB = table [k: nat, j: nat : v: count] { 1,5:10; 2,5:100 };\nC = agg (join A B) by i, j;\nprint C by j, i;\n".as_slice(),
-            b"C[j: nat, i: nat : v: count]\n5,1:320\nend 1\n".as_slice(),
-        ),
-        (
-            b"T = table [i: nat : v: count] { 1:3; 2:4 }; S = agg T by; print S;".as_slice(),
-            b"S[: v: count]\n:7\nend 1\n".as_slice(),
-        ),
-        (
-            b"T = table [i: nat : v: count] {}; S = agg T by; print S;".as_slice(),
-            b"S[: v: count]\nend 0\n".as_slice(),
-        ),
-        (
-            b"T = table [a: nat : v: count] { 1:1; 2:2; 3:3; 4:4 }; U = table [a: nat, c: nat : v: count] { 2,1:10; 2,2:20; 9,1:5 }; W = union T U; print W;".as_slice(),
-            b"W[a: nat : v: count]\n1:1\n2:32\n3:3\n4:4\n9:5\nend 5\n".as_slice(),
-        ),
-        (
-            b"A = table [i: nat : v: count] { 1:2 }; B = table [j: nat : v: count] { 5:3; 6:4 }; C = join A B; print C;".as_slice(),
-            b"C[i: nat, j: nat : v: count]\n1,5:6\n1,6:8\nend 2\n".as_slice(),
-        ),
-        // products that vanish in every column, and in one
-        (
-            b"A = table [i: nat : v: count, w: count] { 1:0,3; 2:1,3 }; B = table [i: nat : w: count, v: count] { 1:0,5; 2:0,7 }; C = join A B; print C;".as_slice(),
-            b"C[i: nat : v: count, w: count]\n2:7,0\nend 1\n".as_slice(),
-        ),
-        // the newest table of a name, on both sides of its own assignment
-        (
-            b"T = table [i: nat : v: count] { 1:3 }; T = union T T; T = join T ((T)); print T;".as_slice(),
-            b"T[i: nat : v: count]\n1:36\nend 1\n".as_slice(),
-        ),
-        // columns that one side alone has
-        (
-            b"U = union (table [a: nat, b: nat : v: count] { 1,2:3 }) (table [b: nat, a: nat : w: count, v: count] { 2,1:5,6 }); print U by b, a;".as_slice(),
-            b"U[b: nat, a: nat : v: count, w: count]\n2,1:9,5\nend 1\n".as_slice(),
-        ),
-    ] {
-        let got = ran(rt.alloc(), &[b"run"], text, 4096, &NONE)?;
-        assert_eq!(rt; got.outcome, Outcome::Done);
-        assert_eq!(rt; got.out.bytes().as_slice(), want);
-    }
+fn sparse_product(rt: HostRuntime) -> Result<(), Fail> {
+    let text =
+        b"A = table [i: nat, k: nat : v: count] { 1,1:2; 1,2:3 };\nB = table [k: nat, j: nat : v: count] { 1,5:10; 2,5:100 };\nC = agg (join A B) by i, j;\nprint C by j, i;\n";
+    let want = b"C[j: nat, i: nat : v: count]\n5,1:320\nend 1\n";
+    assert!(rt; prints(rt.alloc(), text, want)?);
+    Ok(())
+}
+
+#[test]
+fn an_agg_by_nothing_is_the_sum_of_all(rt: HostRuntime) -> Result<(), Fail> {
+    let text = b"T = table [i: nat : v: count] { 1:3; 2:4 }; S = agg T by; print S;";
+    let want = b"S[: v: count]\n:7\nend 1\n";
+    assert!(rt; prints(rt.alloc(), text, want)?);
+    Ok(())
+}
+
+#[test]
+fn an_agg_of_nothing_is_empty(rt: HostRuntime) -> Result<(), Fail> {
+    let text = b"T = table [i: nat : v: count] {}; S = agg T by; print S;";
+    let want = b"S[: v: count]\nend 0\n";
+    assert!(rt; prints(rt.alloc(), text, want)?);
+    Ok(())
+}
+
+#[test]
+fn a_union_sums_over_what_one_side_has_alone(rt: HostRuntime) -> Result<(), Fail> {
+    let text =
+        b"T = table [a: nat : v: count] { 1:1; 2:2; 3:3; 4:4 }; U = table [a: nat, c: nat : v: count] { 2,1:10; 2,2:20; 9,1:5 }; W = union T U; print W;";
+    let want = b"W[a: nat : v: count]\n1:1\n2:32\n3:3\n4:4\n9:5\nend 5\n";
+    assert!(rt; prints(rt.alloc(), text, want)?);
+    Ok(())
+}
+
+#[test]
+fn a_join_without_common_keys_has_all_pairs(rt: HostRuntime) -> Result<(), Fail> {
+    let text =
+        b"A = table [i: nat : v: count] { 1:2 }; B = table [j: nat : v: count] { 5:3; 6:4 }; C = join A B; print C;";
+    let want = b"C[i: nat, j: nat : v: count]\n1,5:6\n1,6:8\nend 2\n";
+    assert!(rt; prints(rt.alloc(), text, want)?);
+    Ok(())
+}
+
+#[test]
+fn a_product_of_zeros_is_no_cell(rt: HostRuntime) -> Result<(), Fail> {
+    let text =
+        b"A = table [i: nat : v: count, w: count] { 1:0,3; 2:1,3 }; B = table [i: nat : w: count, v: count] { 1:0,5; 2:0,7 }; C = join A B; print C;";
+    let want = b"C[i: nat : v: count, w: count]\n2:7,0\nend 1\n";
+    assert!(rt; prints(rt.alloc(), text, want)?);
+    Ok(())
+}
+
+#[test]
+fn a_name_has_its_newest_table_in_its_own_assignment(rt: HostRuntime) -> Result<(), Fail> {
+    let text = b"T = table [i: nat : v: count] { 1:3 }; T = union T T; T = join T ((T)); print T;";
+    let want = b"T[i: nat : v: count]\n1:36\nend 1\n";
+    assert!(rt; prints(rt.alloc(), text, want)?);
+    Ok(())
+}
+
+#[test]
+fn a_union_has_the_columns_of_both(rt: HostRuntime) -> Result<(), Fail> {
+    let text =
+        b"U = union (table [a: nat, b: nat : v: count] { 1,2:3 }) (table [b: nat, a: nat : w: count, v: count] { 2,1:5,6 }); print U by b, a;";
+    let want = b"U[b: nat, a: nat : v: count, w: count]\n2,1:9,5\nend 1\n";
+    assert!(rt; prints(rt.alloc(), text, want)?);
     Ok(())
 }
 
@@ -76,7 +99,7 @@ fn a_join_without_a_common_value_column(rt: HostRuntime) -> Result<(), Fail> {
 }
 
 #[test]
-fn refused_operators(rt: HostRuntime) -> Result<(), Fail> {
+fn broken_operators_are_refused_at_their_place(rt: HostRuntime) -> Result<(), Fail> {
     for (text, want) in [
         (b"T = load X;".as_slice(), script(9, Kind::NoTable)),
         (

@@ -7,10 +7,9 @@ ghost use Rattle.lara_data.specs.TableTypes.{types};
 use crate::table_text::add_table_text;
 use lara_assoc::Assoc;
 use lara_base::{Bytes, List, Name};
-use lara_data::Entry;
+use lara_data::{Entry, KeyCol, TableType, ValCol};
 use lara_key::{KeyType, KeyVal};
 use lara_semiring::{ValType, Value};
-use lara_syntax::{KeyCol, TableType, ValCol};
 use std::alloc::{AllocError, Global};
 use std::test::Fail;
 
@@ -178,5 +177,14 @@ fn a_sum_past_the_range_is_over(rt: HostRuntime) -> Result<(), Fail> {
     assert!(rt; full.is_in_range());
     let far = table(alloc, &[b"i"], &[(&[u64::MAX], 1)])?;
     assert!(rt; !far.is_in_range());
+    assert!(rt;
+        reads(
+            alloc,
+            &far,
+            b"T",
+            &[b"i"],
+            b"T[i: nat : v: count]\nover:1\nend 1\n"
+        )?
+    );
     Ok(())
 }

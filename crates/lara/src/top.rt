@@ -21,7 +21,7 @@ use lara_data::Plugin;
 use std::alloc::Global;
 
 // The text for a script.
-fn script_text<S: Source>(
+fn run_text<S: Source>(
     alloc: Global,
     input: &mut S,
     plugins: &Vec<Box<dyn Plugin>>,
@@ -55,13 +55,13 @@ fn command_text<S: Source>(
     ensures later { S.faults input.old ≤ S.faults input.new }
 {
     match command {
-        Command::Run => script_text(alloc, input, plugins),
+        Command::Run => run_text(alloc, input, plugins),
     }
 }
 
 // The steps before the text is written.
 #[tactic(auto, unfolding(crate::specs::Ruling::ruling))]
-fn prepare<S: Source>(
+fn text_to_write<S: Source>(
     alloc: Global,
     words: &List<Word>,
     input: &mut S,
@@ -100,7 +100,7 @@ fn run<S: Source, O: Sink>(
     ensures front { (bytes : List ℕ) → S.left input.old ≡ Some bytes → AddsFront (O.held out.old) (O.held out.new) (text_of (ruling (handed ⟦<dyn Plugin as Plugin>⟧ plugins.now.items) words.now bytes)) }
     ensures whole { (bytes : List ℕ) → S.left input.old ≡ Some bytes → result ≡ Outcome.Done → Adds (O.held out.old) (O.held out.new) (text_of (ruling (handed ⟦<dyn Plugin as Plugin>⟧ plugins.now.items) words.now bytes)) }
 {
-    match prepare(alloc, words, input, plugins) {
+    match text_to_write(alloc, words, input, plugins) {
         Ok(text) => match write_whole(out, text.as_slice()) {
             Ok(()) => Outcome::Done,
             Err(_) => Outcome::SinkFault,

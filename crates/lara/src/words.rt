@@ -1,6 +1,6 @@
 //! The words of a call: which command they are.
 ghost use Rattle.std.specs.Prelude.{◌≡◌, IfErr};
-ghost use Rattle.lara.specs.Words.{command_of, name_of};
+ghost use Rattle.lara.specs.Words.{command_of, command_named};
 ghost use Rattle.lara.specs.Endings.{Gives, IsUsage, no_fault};
 
 use crate::outcome::Outcome;
@@ -14,8 +14,8 @@ pub enum Command {
 }
 
 // The command of this name.
-fn named(word: &[u8]) -> Result<Command, Outcome>
-    ensures gives { Gives (λ c. c) no_fault (name_of word.now) result }
+fn command_named(word: &[u8]) -> Result<Command, Outcome>
+    ensures gives { Gives (λ c. c) no_fault (command_named word.now) result }
     ensures sure { IfErr result IsUsage }
 {
     if word == b"run".as_slice() {
@@ -33,7 +33,7 @@ pub fn read_command(words: &List<Word>) -> Result<Command, Outcome>
     match words.as_slice() {
         [] => Err(Outcome::Usage { at: 0 }),
         [word, rest @ ..] => {
-            let command = named(word.as_slice())?;
+            let command = command_named(word.as_slice())?;
             if rest.is_empty() {
                 Ok(command)
             } else {

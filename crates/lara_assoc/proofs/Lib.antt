@@ -3,10 +3,10 @@ pub mod GroupFacts
 pub mod JoinFacts
 pub mod MapFacts
 pub mod MeantFacts
+pub mod NewestFacts
 pub mod PairFacts
 pub mod Places
 pub mod RangeFacts
 pub mod RowFacts
-pub mod RunFacts
+pub mod RunningFacts
 pub mod TableFacts
-pub mod NewestFacts

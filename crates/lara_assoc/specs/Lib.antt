@@ -1,5 +1,5 @@
 pub mod Groups
 pub mod JoinColumns
 pub mod Meant
-pub mod Runs
 pub mod Newest
+pub mod RunningScripts

@@ -4,20 +4,9 @@ ghost use Rattle.lara_data.specs.TableTypes.{are_columns};
 ghost use Rattle.lara_data.specs.Algebra.{agg_columns, agg_table};
 
 use crate::assoc::Assoc;
-use lara_base::{Copied, List, Name};
-use lara_data::{TableType, key_cols};
+use lara_base::{List, Name};
+use lara_data::agg_columns;
 use std::alloc::{AllocError, Global};
-
-// The type of an agg.
-fn agg_type(alloc: Global, ty: &TableType, keys: &List<Name>) -> Result<TableType, AllocError>
-    requires { are_columns (agg_columns ty.now keys.now).keys (agg_columns ty.now keys.now).vals ≡ true }
-    ensures { IfOk result (λ t. t ≡ agg_columns ty.now keys.now) }
-{
-    Ok(TableType {
-        keys: key_cols(alloc, &ty.keys, keys)?,
-        vals: ty.vals.copy(alloc)?,
-    })
-}
 
 /// The table summed by these key columns.
 #[tactic(auto, unfolding(lara_data::specs::Algebra::agg_table, lara_data::specs::Algebra::agg, lara_data::specs::Tables::table_of))]
@@ -25,7 +14,7 @@ pub fn agg(alloc: Global, a: &Assoc, keys: &List<Name>) -> Result<Assoc, AllocEr
     requires { are_columns (agg_columns a.now.ty keys.now).keys (agg_columns a.now.ty keys.now).vals ≡ true }
     ensures { IfOk result (λ r. r ≡ agg_table a.now keys.now) }
 {
-    let ty = agg_type(alloc, a.ty(), keys)?;
+    let ty = agg_columns(alloc, a.ty(), keys)?;
     let list = a.recut(alloc, keys)?;
     Assoc::total(alloc, &ty, &list)
 }

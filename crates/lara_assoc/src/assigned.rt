@@ -6,7 +6,7 @@ ghost use Rattle.lara_assoc.specs.Newest.{HasNewest};
 
 use crate::assoc::Assoc;
 use indexmap::IndexMap;
-use lara_base::{Copied, List, Name};
+use lara_base::{Copied, Name};
 use lara_data::TableType;
 use std::alloc::{AllocError, Global};
 
@@ -47,7 +47,7 @@ impl Assigned {
     {
         match self.get(name) {
             Some(table) => table.copy(alloc),
-            None => Assoc::total(alloc, ty, &List::new(alloc)),
+            None => Assoc::empty(alloc, ty),
         }
     }
 }

@@ -1,5 +1,5 @@
 //! A table on an ordered map.
-ghost use Rattle.std.specs.Prelude.{◌≡◌, true, IfOk, OnOk};
+ghost use Rattle.std.specs.Prelude.{◌≡◌, true, [], IfOk, OnOk};
 ghost use Rattle.std.specs.List.Sorted.{IsPermutation};
 ghost use Rattle.lara_key.specs.Keys.{tuple_cmp};
 ghost use Rattle.lara_semiring.specs.Rows.{row_has};
@@ -9,10 +9,10 @@ ghost use Rattle.lara_data.specs.MapTables.{of_pairs};
 ghost use Rattle.lara_data.specs.Tables.{Entries, table_of, recut, stored, is_in_range};
 ghost use Rattle.lara_data.specs.TableTypes.{types, key_names};
 
-use crate::columns::{cut, types};
+use crate::keys::cut;
 use crate::range::{is_key_over, is_row_over};
 use lara_base::{Copied, List, Name};
-use lara_data::{Entry, TableType};
+use lara_data::{Entry, TableType, val_types};
 use lara_key::Tuple;
 use lara_semiring::{Row, ValType, is_default, row_plus};
 use std::alloc::{AllocError, Global};
@@ -30,7 +30,7 @@ pub struct Assoc {
 
 impl Model for Assoc {
     ghost use Rattle.lara_key.specs.Keys.{tuple_cmp};
-    ghost use Rattle.lara_data.specs.KeyedTypes.{IsTyped};
+    ghost use Rattle.lara_data.specs.KeyedTables.{IsTypedList};
     ghost use Rattle.lara_data.specs.MapTables.{of_pairs};
     ghost use Rattle.lara_data.specs.Tables.{Table};
     ghost use Rattle.lara_data.specs.TableTypes.{types};
@@ -39,7 +39,7 @@ impl Model for Assoc {
 
     ghost view = { λ a. record { ty = a.ty; entries = of_pairs a.rows.value.entries } };
 
-    ghost invariant = { λ a. IsTyped tuple_cmp (types a.ty.vals) (of_pairs a.rows.value.entries) };
+    ghost invariant = { λ a. IsTypedList tuple_cmp (types a.ty.vals) (of_pairs a.rows.value.entries) };
 }
 
 // Sums one more entry into a map. A key whose sum is default goes.
@@ -97,12 +97,20 @@ impl Assoc {
         ensures table { IfOk result (λ a. a ≡ table_of ty.now entries.now) }
         ensures any_order { (others : Entries) → IsPermutation others entries.now → IfOk result (λ a. a ≡ table_of ty.now others) }
     {
-        let tys = types(alloc, &ty.vals)?;
+        let tys = val_types(alloc, &ty.vals)?;
         let rows = summed(alloc, &tys, entries)?;
         Ok(Assoc {
             ty: ty.copy(alloc)?,
             rows: Rc::new(alloc, rows)?,
         })
+    }
+
+    /// The table without entries.
+    pub(crate) fn empty(alloc: Global, ty: &TableType) -> Result<Assoc, AllocError>
+        ensures { IfOk result (λ a. a ≡ table_of ty.now []) }
+    {
+        let entries = List::new(alloc);
+        Assoc::total(alloc, ty, &entries)
     }
 
     /// The named columns.
@@ -145,7 +153,7 @@ impl Assoc {
 
     /// The entries with their key columns in the given order, rising.
     #[tactic(auto, unfolding(lara_data::specs::Tables::stored))]
-    pub fn stored(&self, alloc: Global, order: &List<Name>) -> Result<List<Entry>, AllocError>
+    pub fn entries_by(&self, alloc: Global, order: &List<Name>) -> Result<List<Entry>, AllocError>
         ensures { IfOk result (λ es. es ≡ stored self.now order.now) }
     {
         let list = self.recut(alloc, order)?;

@@ -4,9 +4,9 @@
 mod aggs;
 mod assigned;
 mod assoc;
-mod columns;
 mod groups;
 mod joins;
+mod keys;
 mod lists;
 mod named;
 mod range;

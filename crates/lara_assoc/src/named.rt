@@ -97,6 +97,6 @@ pub fn copy_named(
 {
     match table_named(tables, name) {
         Some(table) => table.copy(alloc),
-        None => Assoc::total(alloc, ty, &List::new(alloc)),
+        None => Assoc::empty(alloc, ty),
     }
 }

@@ -23,7 +23,7 @@ struct Running {
 impl Running {
     ghost use Rattle.lara_data.specs.Denotations.{Running as Runs, after, after_printing, after_storing};
     ghost use Rattle.lara_data.specs.declared.script.Statement.TheVariants.{Assign};
-    ghost use Rattle.lara_assoc.specs.Runs.{IsRun, CanRun};
+    ghost use Rattle.lara_assoc.specs.RunningScripts.{IsRunning, CanRun};
     ghost use Rattle.lara_assoc.specs.Meant.{IsMeantBy};
 
     fn assign(
@@ -36,7 +36,7 @@ impl Running {
     ) -> Result<(), AllocError>
         requires few { self.old.statement < 2 ^ 32 - 1 }
         requires scope { IsMeantBy (handed ⟦<dyn Plugin as Plugin>⟧ plugins.now.items) stored.now self.old.assigned.tables node.now }
-        ensures { (r : Runs) → IsRun self.old r → OnOk result (IsRun self.new (after (handed ⟦<dyn Plugin as Plugin>⟧ plugins.now.items) stored.now r (Assign name.now node.now))) }
+        ensures { (r : Runs) → IsRunning self.old r → OnOk result (IsRunning self.new (after (handed ⟦<dyn Plugin as Plugin>⟧ plugins.now.items) stored.now r (Assign name.now node.now))) }
     {
         let table = table_of(alloc, plugins, stored, &self.assigned, node)?;
         self.assigned.put(name.copy(alloc)?, table)?;
@@ -46,7 +46,7 @@ impl Running {
 
     fn print(&mut self, alloc: Global, name: &Name, order: &Order) -> Result<(), AllocError>
         requires few { self.old.statement < 2 ^ 32 - 1 }
-        ensures { (r : Runs) → IsRun self.old r → OnOk result (IsRun self.new (after_printing r name.now order.now)) }
+        ensures { (r : Runs) → IsRunning self.old r → OnOk result (IsRunning self.new (after_printing r name.now order.now)) }
     {
         self.statement += 1;
         if let Some(table) = self.assigned.get(name) {
@@ -62,7 +62,7 @@ impl Running {
 
     fn store(&mut self, alloc: Global, old: &Name, new: &Name) -> Result<(), AllocError>
         requires few { self.old.statement < 2 ^ 32 - 1 }
-        ensures { (r : Runs) → IsRun self.old r → OnOk result (IsRun self.new (after_storing r old.now new.now)) }
+        ensures { (r : Runs) → IsRunning self.old r → OnOk result (IsRunning self.new (after_storing r old.now new.now)) }
     {
         self.statement += 1;
         if let Some(table) = self.assigned.get(old) {
@@ -85,7 +85,7 @@ impl Running {
     ) -> Result<(), AllocError>
         requires few { self.old.statement < 2 ^ 32 - 1 }
         requires can { CanRun (handed ⟦<dyn Plugin as Plugin>⟧ plugins.now.items) stored.now self.old statement.now }
-        ensures { (r : Runs) → IsRun self.old r → OnOk result (IsRun self.new (after (handed ⟦<dyn Plugin as Plugin>⟧ plugins.now.items) stored.now r statement.now)) }
+        ensures { (r : Runs) → IsRunning self.old r → OnOk result (IsRunning self.new (after (handed ⟦<dyn Plugin as Plugin>⟧ plugins.now.items) stored.now r statement.now)) }
     {
         match statement {
             Statement::Assign(name, node) => self.assign(alloc, stored, plugins, name, node),

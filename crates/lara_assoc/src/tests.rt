@@ -350,7 +350,7 @@ fn entries_are_stored_in_the_order_of_the_columns(rt: HostRuntime) -> Result<(),
     let mut order = List::new(alloc);
     order.push(name(alloc, b'j')?)?;
     order.push(name(alloc, b'i')?)?;
-    let entries = a.stored(alloc, &order)?;
+    let entries = a.entries_by(alloc, &order)?;
     assert!(rt; are(entries.as_slice(), &[(&[5, 2], &[10]), (&[6, 1], &[2])]));
     Ok(())
 }

@@ -1,7 +1,6 @@
 //! The table of a tree.
-ghost use Rattle.std.specs.Prelude.{◌≡◌, [], List, IfOk};
+ghost use Rattle.std.specs.Prelude.{◌≡◌, List, IfOk};
 ghost use Rattle.lara_data.specs.Plugins.{handed};
-ghost use Rattle.lara_data.specs.Tables.{table_of as table_of_entries};
 ghost use Rattle.lara_data.specs.Denotations.{NamedTable as Named, meaning_of};
 ghost use Rattle.lara_assoc.specs.Meant.{IsMeantBy};
 ghost use Rattle.lara_assoc.specs.Newest.{HasNewest};
@@ -13,16 +12,8 @@ use crate::joins::join;
 use crate::named::{NamedTable, copy_named};
 use crate::unions::union;
 use lara_base::List;
-use lara_data::{Node, Op, Plugin, TableType};
+use lara_data::{Node, Op, Plugin};
 use std::alloc::{AllocError, Global};
-
-// The table without entries.
-fn nothing(alloc: Global, ty: &TableType) -> Result<Assoc, AllocError>
-    ensures { IfOk result (λ t. t ≡ table_of_entries ty.now []) }
-{
-    let entries = List::new(alloc);
-    Assoc::total(alloc, ty, &entries)
-}
 
 /// The table of a tree over stored tables and those that a script assigned so far. The plugins stand in its clauses: the
 /// tables of applies, which no typed tree has yet, are to be made with them.
@@ -55,10 +46,10 @@ pub fn table_of(
             agg(alloc, &table, keys)
         }
         // No typed tree has one of these yet.
-        Op::Map(_, _) => nothing(alloc, &node.ty),
-        Op::Filter(_, _) => nothing(alloc, &node.ty),
-        Op::Promote(_, _) => nothing(alloc, &node.ty),
-        Op::Rename(_, _) => nothing(alloc, &node.ty),
-        Op::Apply(_, _) => nothing(alloc, &node.ty),
+        Op::Map(_, _) => Assoc::empty(alloc, &node.ty),
+        Op::Filter(_, _) => Assoc::empty(alloc, &node.ty),
+        Op::Promote(_, _) => Assoc::empty(alloc, &node.ty),
+        Op::Rename(_, _) => Assoc::empty(alloc, &node.ty),
+        Op::Apply(_, _) => Assoc::empty(alloc, &node.ty),
     }
 }

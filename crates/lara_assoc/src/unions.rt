@@ -5,23 +5,12 @@ ghost use Rattle.lara_data.specs.KeyedTables.{all_have};
 ghost use Rattle.lara_data.specs.Algebra.{heading, shares, union_columns, union_tables};
 
 use crate::assoc::Assoc;
-use crate::columns::cut;
+use crate::keys::cut;
 use crate::lists::appended;
 use crate::rows::brought;
 use lara_base::List;
-use lara_data::{Entry, TableType, all_vals, common_keys, key_names};
+use lara_data::{Entry, TableType, key_names, union_columns};
 use std::alloc::{AllocError, Global};
-
-// The type of a union.
-fn union_type(alloc: Global, a: &TableType, b: &TableType) -> Result<TableType, AllocError>
-    requires { are_columns (union_columns a.now b.now).keys (union_columns a.now b.now).vals ≡ true }
-    ensures { IfOk result (λ t. t ≡ union_columns a.now b.now) }
-{
-    Ok(TableType {
-        keys: common_keys(alloc, &a.keys, &b.keys)?,
-        vals: all_vals(alloc, &a.vals, &b.vals)?,
-    })
-}
 
 // The entries over some columns, brought to others.
 #[tactic(auto, unfolding(lara_data::specs::Algebra::shares))]
@@ -59,7 +48,7 @@ pub fn union(alloc: Global, a: &Assoc, b: &Assoc) -> Result<Assoc, AllocError>
     requires { are_columns (union_columns a.now.ty b.now.ty).keys (union_columns a.now.ty b.now.ty).vals ≡ true }
     ensures { IfOk result (λ r. r ≡ union_tables a.now b.now) }
 {
-    let ty = union_type(alloc, a.ty(), b.ty())?;
+    let ty = union_columns(alloc, a.ty(), b.ty())?;
     let left = shares_of(alloc, a, &ty)?;
     let right = shares_of(alloc, b, &ty)?;
     let list = appended(left, right)?;

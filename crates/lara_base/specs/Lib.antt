@@ -3,3 +3,4 @@ pub mod MemSinks
 pub mod MemSources
 pub mod Moves
 pub mod Names
+pub mod Results

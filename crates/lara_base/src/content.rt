@@ -35,6 +35,7 @@ impl Content {
         }
     }
 
+    /// The bytes in place, with no copy.
     pub fn bytes(&self) -> &Bytes
         ensures value { result.now ≡ self.now }
         ensures short { length self.now ≤ 1024 }

@@ -22,7 +22,7 @@ pub use file_name::FileName;
 pub use list::{Bytes, List, Word};
 pub use mem_sink::MemSink;
 pub use mem_source::MemSource;
-pub use name::Name;
+pub use name::{Name, goes_on, starts_name};
 pub use read_source::ReadSource;
 pub use sqlite_items::Boxed;
 pub use standard::{StderrSink, StdinSource, StdoutSink};

@@ -38,12 +38,14 @@ impl<T> List<T> {
         }
     }
 
+    /// The list of a vector's items, which keep their memory.
     pub fn from_vec(items: Vec<T>) -> List<T>
         ensures { result ≡ items.items }
     {
         List { items }
     }
 
+    /// The vector of the items, which keep their memory.
     pub fn into_vec(self) -> Vec<T>
         ensures { result.items ≡ self }
     {
@@ -51,24 +53,28 @@ impl<T> List<T> {
         items
     }
 
+    /// The items in place, with no copy.
     pub fn as_slice(&self) -> &[T]
         ensures { result.now ≡ self.now }
     {
         self.items.as_slice()
     }
 
+    /// The number of items.
     pub fn len(&self) -> usize
         ensures { result ≡ length self.now }
     {
         self.items.len()
     }
 
+    /// Whether there is no item.
     pub fn is_empty(&self) -> bool
         ensures { IsTrue result ↔ (self.now ≡ []) }
     {
         self.items.is_empty()
     }
 
+    /// The item at this index, counted from 0, or `None` from the end on.
     pub fn get(&self, at: usize) -> Option<&T>
         ensures { option_copied result ≡ slice_get self.now at }
     {
@@ -88,6 +94,7 @@ impl<T> List<T> {
 }
 
 impl<T: Copy> List<T> {
+    /// A list of copies of these items. It fails only where memory is refused.
     pub fn from_slice(alloc: Global, items: &[T]) -> Result<List<T>, AllocError>
         ensures { IfOk result (λ l. l ≡ items.now) }
     {

@@ -4,8 +4,8 @@ ghost use Rattle.std.specs.Prelude.{◌≡◌, ◌<◌, None, length};
 use crate::streams::{Failed, Sink};
 use std::io::Write;
 
-/// A writer with a count of its faults. It tells no contents, since a writer of the system knows none; what its writer
-/// knows goes through it.
+/// A writer with a count of its faults. It tells no contents, since std's `Write` lets a writer that told nothing begin
+/// to tell. What its writer tells goes through it.
 #[derive(Drop)]
 pub struct WriteSink<W: Write> {
     writer: W,

@@ -1,6 +1,6 @@
+mod WorkedTables
 pub mod ColumnNames
 pub mod FitEquations
 pub mod MeaningEquations
 pub mod SizeEquations
 pub mod TypedEquations
-mod WorkedTables

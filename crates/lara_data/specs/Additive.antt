@@ -3,10 +3,10 @@ use Rattle.std.specs.Prelude.{◌≡◌, true, false, cond, List, [], ◌∷◌,
 use Rattle.std.proofs.Common.{refl, sym, ap, ◌∙◌, subst, append_assoc}
 use Rattle.std.specs.List.{flat_map}
 use Rattle.std.specs.declared.cmp.Ordering.{Ordering}
-use Rattle.lara_semiring.specs.Rows.{row_zero, row_plus, row_is_zero, row_zero_plus, row_zero_from_is_zero}
+use Rattle.lara_semiring.specs.Rows.{row_zero, row_plus, row_is_zero, row_zero_plus_plus, row_zero_from_is_zero}
 use Rattle.lara_data.specs.declared.entry.Keyed.{Keyed}
 use Rattle.lara_data.specs.KeyedTables.{IsKeyOrder, Types, Row, same_key, before, SameAt, total}
-use Rattle.lara_data.specs.KeyedOrder.{same_key_is}
+use Rattle.lara_data.specs.KeyedOrderLaws.{same_key_is}
 use Rattle.lara_data.specs.KeyedLaws.{SameAt-refl, SameAt-sym, SameAt-trans, SameAt-append, three_turned}
 use Rattle.lara_data.specs.KeyedTotals.{total_same}
 use Rattle.lara_data.specs.KeyedPuts.{own, keep, put, puts, total_puts}
@@ -33,16 +33,16 @@ module _ {K L : Type 0} {R : K → K → Ordering} {S : L → L → Ordering} (k
 
   flat_put : (e : Keyed K) (t : List (Keyed K)) → SameAt S us (flat_map g (put R ts e t)) (g e ++ flat_map g t)
   unfolding put
-  flat_put e [] = SameAt-trans lo (flat_keep e.key (own ts e) [] (row_zero_plus ts (row_zero ts) e.row)) (SameAt-append lo (g_own e) (SameAt-refl lo us []))
+  flat_put e [] = SameAt-trans lo (flat_keep e.key (own ts e) [] (row_zero_plus_plus ts (row_zero ts) e.row)) (SameAt-append lo (g_own e) (SameAt-refl lo us []))
   flat_put e (f ∷ t) =
       elim (before R e.key f.key) as (λ b. SameAt S us (flat_map g (cond b (keep ts e.key (own ts e) (f ∷ t)) (cond (same_key R e.key f.key) (keep ts f.key (row_plus ts e.row f.row) t) (f ∷ put R ts e t)))) (g e ++ (g f ++ flat_map g t))) [
-        | true ↦ SameAt-trans lo (flat_keep e.key (own ts e) (f ∷ t) (row_zero_plus ts (row_zero ts) e.row)) (SameAt-append lo (g_own e) (SameAt-refl lo us (g f ++ flat_map g t)))
+        | true ↦ SameAt-trans lo (flat_keep e.key (own ts e) (f ∷ t) (row_zero_plus_plus ts (row_zero ts) e.row)) (SameAt-append lo (g_own e) (SameAt-refl lo us (g f ++ flat_map g t)))
         | false ↦ elim (same_key R e.key f.key) as (λ b. same_key R e.key f.key ≡ b → SameAt S us (flat_map g (cond b (keep ts f.key (row_plus ts e.row f.row) t) (f ∷ put R ts e t))) (g e ++ (g f ++ flat_map g t))) [
           | true ↦ λ k.
               let is = same_key_is ko e.key f.key k in
               let sum : SameAt S us (g (record { key = f.key; row = row_plus ts e.row f.row })) (g e ++ g f) =
               subst (λ (x : K). SameAt S us (g (record { key = f.key; row = row_plus ts e.row f.row })) (g (record { key = x; row = e.row }) ++ g f)) (sym is) (a.plus f.key e.row f.row) in
-              let here = SameAt-trans lo (flat_keep f.key (row_plus ts e.row f.row) t (row_zero_plus ts e.row f.row)) (SameAt-append lo sum (SameAt-refl lo us (flat_map g t))) in
+              let here = SameAt-trans lo (flat_keep f.key (row_plus ts e.row f.row) t (row_zero_plus_plus ts e.row f.row)) (SameAt-append lo sum (SameAt-refl lo us (flat_map g t))) in
               subst (SameAt S us (flat_map g (keep ts f.key (row_plus ts e.row f.row) t))) (append_assoc (g e) (g f) (flat_map g t)) here
           | false ↦ λ k. SameAt-trans lo (SameAt-append lo (SameAt-refl lo us (g f)) (flat_put e t)) (three_turned lo us (g f) (g e) (flat_map g t))
         ] refl

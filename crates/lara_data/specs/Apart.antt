@@ -6,9 +6,8 @@ use Rattle.std.specs.List.{flat_map}
 use Rattle.std.specs.declared.cmp.Ordering.{Ordering}
 use Rattle.lara_semiring.specs.Rows.{row_plus, row_is_zero}
 use Rattle.lara_data.specs.declared.entry.Keyed.{Keyed}
-use Rattle.lara_data.specs.KeyedTables.{IsKeyOrder, Types, Row, same_key, before, is_below, rises, SameAt, IsKept, AllKept, IsTable, total}
-use Rattle.lara_data.specs.KeyedOrder.{same_key_itself, same_key_is, before_apart}
-use Rattle.lara_data.specs.Builders.{with_keys}
+use Rattle.lara_data.specs.KeyedTables.{IsKeyOrder, Types, Row, same_key, before, is_below, rises, SameAt, IsKept, AllKept, IsTable, total, with_keys, AllKeys}
+use Rattle.lara_data.specs.KeyedOrderLaws.{same_key_itself, same_key_is, before_apart}
 use Rattle.lara_data.specs.KeyedLaws.{SameAt-refl, SameAt-trans, SameAt-append, three_turned}
 use Rattle.lara_data.specs.KeyedPuts.{own, keep, put, puts, total_puts}
 
@@ -22,11 +21,6 @@ module _ {K : Type 0} (R : K → K → Ordering) where
   unfoldable pub apart : List (Keyed K) → Bool
   apart [] = true
   apart (e ∷ es) = lacks e.key es && apart es
-
--- each key of the list has the property
-unfoldable pub AllKeys : {K : Type 0} → (K → Type 0) → List (Keyed K) → Type 0
-AllKeys P [] = Unit {0}
-AllKeys P (e ∷ es) = P e.key × AllKeys P es
 
 keep_kept : {K : Type 0} (ts : Types) (e : Keyed K) (t : List (Keyed K)) → IsKept ts e.row → keep ts e.key (own ts e) t ≡ e ∷ t
 unfolding keep

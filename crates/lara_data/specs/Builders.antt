@@ -3,9 +3,9 @@ use Rattle.std.specs.Prelude.{◌≡◌, Bool, true, false, cond, not, List, [],
 use Rattle.std.proofs.Common.{refl, sym, ap, ◌∙◌, subst, arith, append_assoc}
 use Rattle.std.specs.List.{flat_map}
 use Rattle.std.specs.declared.cmp.Ordering.{Ordering}
-use Rattle.lara_semiring.specs.Rows.{row_zero, row_plus, row_plus_assoc, row_plus_comm, row_zero_plus, row_zero_twice}
+use Rattle.lara_semiring.specs.Rows.{row_zero, row_plus, row_plus_assoc, row_plus_comm, row_zero_plus_plus, row_zero_twice}
 use Rattle.lara_data.specs.declared.entry.Keyed.{Keyed}
-use Rattle.lara_data.specs.KeyedTables.{IsKeyOrder, Types, Row, same_key, at, SameAt, total}
+use Rattle.lara_data.specs.KeyedTables.{IsKeyOrder, Types, Row, same_key, at, SameAt, total, with_keys}
 use Rattle.lara_data.specs.KeyedLaws.{at_none, SameAt-refl, SameAt-sym, SameAt-trans, SameAt-append, SameAt-swap, SameAt-cons, SameAt-total}
 use Rattle.lara_data.specs.KeyedTotals.{total_same, total_of_totals}
 use Rattle.lara_data.specs.Additive.{IsAdditive, SameAt-map}
@@ -16,7 +16,7 @@ pub record IsLinear (ts us : Types) (f : Row → Row) : Type 0 where
   pub plus : (r s : Row) → row_plus us (row_zero us) (f (row_plus ts r s)) ≡ row_plus us (f r) (f s)
 
 pub id_linear : (ts : Types) → IsLinear ts ts (λ r. r)
-id_linear ts = record { none = row_zero_twice ts; plus = λ r s. row_zero_plus ts r s }
+id_linear ts = record { none = row_zero_twice ts; plus = λ r s. row_zero_plus_plus ts r s }
 
 one_is_none : (n : ℕ) → 1 + n ≡ 0 → ⊥
 one_is_none n h = omega arith
@@ -33,10 +33,6 @@ flat_flat g f (x ∷ xs) = flat_append g (f x) (flat_map f xs) ∙ ap (λ t. fla
 flat_none : {X K : Type 0} (xs : List X) → flat_map (λ (x : X). let none : List (Keyed K) = [] in none) xs ≡ []
 flat_none {X} {K} [] = refl
 flat_none {X} {K} (x ∷ xs) = flat_none {X = X} {K = K} xs
-
--- the entries with other keys
-abbrev pub with_keys : {K L : Type 0} → (K → L) → List (Keyed K) → List (Keyed L)
-with_keys {K} {L} h es = map {A = Keyed K} {B = Keyed L} (λ e. record { key = h e.key; row = e.row }) es
 
 with_keys_twice : {K L M : Type 0} (h : L → M) (g : K → L) (es : List (Keyed K)) → with_keys h (with_keys g es) ≡ with_keys (λ k. h (g k)) es
 with_keys_twice h g [] = refl
@@ -88,7 +84,7 @@ module _ {L : Type 0} {S : L → L → Ordering} (lo : IsKeyOrder S) where
   unfolding at
   one_linear us k q t r s h =
       elim (same_key S q k) as (λ b. cond b (row_plus us t (row_zero us)) (row_zero us) ≡ cond b (row_plus us r (cond b (row_plus us s (row_zero us)) (row_zero us))) (cond b (row_plus us s (row_zero us)) (row_zero us))) [
-        | true ↦ row_plus_comm us t (row_zero us) ∙ h ∙ sym (row_zero_plus us r s) ∙ row_plus_comm us (row_zero us) (row_plus us r s) ∙ row_plus_assoc us r s (row_zero us)
+        | true ↦ row_plus_comm us t (row_zero us) ∙ h ∙ sym (row_zero_plus_plus us r s) ∙ row_plus_comm us (row_zero us) (row_plus us r s) ∙ row_plus_assoc us r s (row_zero us)
         | false ↦ refl
       ]
 

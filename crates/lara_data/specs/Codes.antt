@@ -5,10 +5,10 @@ use Rattle.std.specs.declared.cmp.Ordering.{Ordering}
 use Rattle.std.specs.Ordering.{is_eq, is_lt}
 use Rattle.lara_semiring.specs.Rows.{row_plus}
 use Rattle.lara_data.specs.declared.entry.Keyed.{Keyed}
-use Rattle.lara_data.specs.KeyedTables.{IsKeyOrder, Types, same_key, before, at, is_below, rises, AllKept, IsTable, total}
+use Rattle.lara_data.specs.KeyedTables.{IsKeyOrder, Types, same_key, before, at, is_below, rises, AllKept, IsTable, total, with_keys}
 use Rattle.lara_data.specs.KeyedLaws.{SameAt-total, IsTable-total}
 use Rattle.lara_data.specs.KeyedTotals.{total_by}
-use Rattle.lara_data.specs.Builders.{with_keys, SameAt-keys}
+use Rattle.lara_data.specs.Builders.{SameAt-keys}
 
 module _ {K L : Type 0} {R : K → K → Ordering} {S : L → L → Ordering} (ko : IsKeyOrder R) (lo : IsKeyOrder S) (code : K → L) (agree : (a b : K) → R a b ≡ S (code a) (code b)) where
   below_code : (k : K) (es : List (Keyed K)) → is_below R k es ≡ is_below S (code k) (with_keys code es)

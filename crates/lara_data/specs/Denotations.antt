@@ -24,6 +24,7 @@ pub record NamedTable : Type 0 where
 abbrev pub Database : Type 0
 Database = List NamedTable
 
+-- the table of the later one where it has the name, else what was found before
 abbrev pub newer_table : Name → Option Table → NamedTable → Option Table
 newer_table n found d = if same_name n d.name then Some d.table else found
 
@@ -103,11 +104,12 @@ pub record Answers : Type 0 where
   pub prints : List Printed
   pub stores : List Stored
 
--- a name without a table, which no typed script has, prints and stores nothing
+-- what a statement prints of a name: its table in the order; where there is none, as in no typed script, nothing
 abbrev pub print_of : ℕ → Name → List Name → Option Table → List Printed
 print_of statement name order None = []
 print_of statement name order (Some table) = record { statement = statement; name = name; order = order; table = table } ∷ []
 
+-- what a statement stores under a name: the table; where there is none, as in no typed script, nothing
 abbrev pub store_of : ℕ → Name → Option Table → List Stored
 store_of statement name None = []
 store_of statement name (Some table) = record { statement = statement; name = name; table = table } ∷ []
@@ -126,6 +128,7 @@ after ps db r (Assign name node) = record { statement = r.statement + 1; tables 
 after ps db r (Print name order) = after_printing r name order
 after ps db r (Store old new) = after_storing r old new
 
+-- before the first statement
 abbrev pub before_all : Running
 before_all = record { statement = 0; tables = []; prints = []; stores = [] }
 
@@ -142,6 +145,7 @@ unfoldable pub with_table : Name → Table → Database → Database
 with_table n t [] = record { name = n; table = t } ∷ []
 with_table n t (d ∷ db) = if same_name n d.name then record { name = n; table = t } ∷ db else d ∷ with_table n t db
 
+-- the database after one store
 abbrev pub after_store : Database → Stored → Database
 after_store db s = with_table s.name s.table db
 

@@ -5,7 +5,7 @@ use Rattle.std.proofs.lemmas.Bool.{and_from, and_parts}
 use Rattle.std.proofs.Math.Bool.{and-false}
 use Rattle.std.proofs.lemmas.List.{take-append-drop}
 use Rattle.std.proofs.lemmas.List.Sums.{length-filter, count_by-le-length}
-use Rattle.lara_data.specs.Names.{Name, same_name, same_name_is, same_name_itself, has, has_head, has_tail, has_append, has_among, among, among_by, distinct, common, others, other_name, not_true}
+use Rattle.lara_data.specs.Names.{Name, same_name, same_name_is, same_name_itself, has, has_head, has_tail, has_append, has_among, among, among_by, begins, distinct, common, others, other_name, not_true}
 use Rattle.lara_data.specs.Algebra.{Heading}
 use Rattle.lara_data.specs.Sequences.{SameNames, SameNames-by, SameNames-common, same_has, has_filter}
 use Rattle.lara_data.specs.FirstColumns.{StandFirst}
@@ -29,7 +29,7 @@ distinct_append (n ∷ ns) ms d e h =
     let out : has (ns ++ ms) n ≡ false = has_append ns ms n ∙ (λ i. f i || h n (has_head n ns) i) in
     and_from _ _ (ap not out) (distinct_append ns ms (and_parts (not (has ns n)) (distinct ns) d).1 e (λ m k. h m (has_tail m n ns k)))
 
--- the columns of a join, and those of a sorted leg
+-- distinct names, and behind them those of other distinct names that are not among them, are distinct
 pub distinct_others : (ns ms : List Name) → distinct ns ≡ true → distinct ms ≡ true → distinct (ns ++ others ns ms) ≡ true
 unfolding others
 distinct_others ns ms d e =
@@ -83,12 +83,6 @@ same_length ns ms d e s =
 
 -- ---- columns that stand first
 
--- the names ns stand first in the order
-unfoldable pub begins : List Name → List Name → Bool
-begins order [] = true
-begins [] (n ∷ ns) = false
-begins (m ∷ order) (n ∷ ns) = same_name m n && begins order ns
-
 pub begins_with : (order ns : List Name) → begins order ns ≡ true → order ≡ ns ++ drop (length ns) order
 unfolding begins
 begins_with order [] h = refl
@@ -101,7 +95,7 @@ begins_with (m ∷ order) (n ∷ ns) h =
 pub first_columns : (order : List Name) (n : ℕ) → order ≡ take n order ++ drop n order
 first_columns order n = sym (take-append-drop n order)
 
--- the legs of a compiled join have their common columns first, in one sequence
+-- where the common key names of a and b begin the keys of a' and b' in one sequence, they stand first in both
 pub stand_first : (a b a' b' : Heading) (n : ℕ) (q : List Name) → SameNames a.keys a'.keys → SameNames b.keys b'.keys → SameNames (take n a'.keys) (common a.keys b.keys) → b'.keys ≡ take n a'.keys ++ q → distinct a'.keys ≡ true → distinct b'.keys ≡ true →
     StandFirst (take n a'.keys) a' b' (drop n a'.keys) q
 stand_first a b a' b' n q sa sb sc e da db = record {

@@ -42,9 +42,11 @@ OpFits ps db (Promote' _ (more_of-Node t a end_of-Node) def) ty = OpFits ps db a
 OpFits ps db (Rename' _ (more_of-Node t a end_of-Node) pairs) ty = OpFits ps db a t
 OpFits ps db (Apply' _ (more_of-Node t a end_of-Node) call) ty = OpFits ps db a t × CallFits ps t call
 
+-- the tree of the node fits
 abbrev pub NodeFits : Plugins → Database → Node → Type 0
 NodeFits ps db node = OpFits ps db node.op node.ty
 
+-- the tree that a statement assigns fits; the others have none
 abbrev pub StatementFits : Plugins → Database → Statement → Type 0
 StatementFits ps db (Assign name node) = NodeFits ps db node
 StatementFits ps db (Print name order) = Unit {0}
@@ -61,3 +63,8 @@ TablesOf [] [] = Unit {0}
 TablesOf [] (d ∷ ds) = ⊥
 TablesOf (s ∷ ss) [] = ⊥
 TablesOf (s ∷ ss) (d ∷ ds) = (d.name ≡ s.name) × IsTableOf s.ty d.table × TablesOf ss ds
+
+-- what is known has tables, and the stored tables are of their types
+pub record KnownHaveTables (db : Database) (known : List Schema) (tables : List NamedTable) : Type 0 where
+  pub stored : TablesTyped db
+  pub assigned : TablesOf known tables

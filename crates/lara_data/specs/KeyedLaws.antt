@@ -3,10 +3,10 @@ use Rattle.std.specs.Prelude.{◌≡◌, Bool, true, false, cond, ◌&&◌, ◌|
 use Rattle.std.proofs.Common.{refl, sym, ap, ◌∙◌, subst, append_assoc}
 use Rattle.std.proofs.lemmas.Bool.{and_parts, and_from, or_parts}
 use Rattle.std.specs.declared.cmp.Ordering.{Ordering}
-use Rattle.lara_semiring.specs.Rows.{row_zero, row_plus, row_is_zero, row_plus_assoc, row_plus_comm, row_zero_plus, row_zero_twice, row_zero_is_zero, row_zero_from_is_zero}
+use Rattle.lara_semiring.specs.Rows.{row_zero, row_plus, row_is_zero, row_plus_assoc, row_plus_comm, row_zero_plus_plus, row_zero_twice, row_zero_is_zero, row_zero_from_is_zero}
 use Rattle.lara_data.specs.declared.entry.Keyed.{Keyed}
 use Rattle.lara_data.specs.KeyedTables.{IsKeyOrder, Types, Row, same_key, before, at, SameAt, is_below, rises, IsKept, AllKept, IsTable, key_put, key_set, at_keys, total}
-use Rattle.lara_data.specs.KeyedOrder.{same_key_itself, same_key_is, before_trans, before_apart, after_by}
+use Rattle.lara_data.specs.KeyedOrderLaws.{same_key_itself, same_key_is, before_trans, before_apart, after_by}
 
 or_turned : (a b c : Bool) → (a || (b || c)) ≡ (b || (a || c))
 or_turned true true c = refl
@@ -42,7 +42,7 @@ module _ {K : Type 0} {R : K → K → Ordering} (ko : IsKeyOrder R) where
   at_whole ts [] k = row_zero_twice ts
   at_whole ts (e ∷ es) k =
       elim (same_key R k e.key) as (λ b. row_plus ts (row_zero ts) (cond b (row_plus ts e.row (at R ts es k)) (at R ts es k)) ≡ cond b (row_plus ts e.row (at R ts es k)) (at R ts es k)) [
-        | true ↦ row_zero_plus ts e.row (at R ts es k)
+        | true ↦ row_zero_plus_plus ts e.row (at R ts es k)
         | false ↦ at_whole ts es k
       ]
 

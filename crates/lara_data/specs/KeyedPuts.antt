@@ -3,10 +3,10 @@ use Rattle.std.specs.Prelude.{◌≡◌, true, false, cond, ◌&&◌, List, [], 
 use Rattle.std.proofs.Common.{refl, sym, ap, ◌∙◌}
 use Rattle.std.proofs.lemmas.Bool.{and_parts, and_from}
 use Rattle.std.specs.declared.cmp.Ordering.{Ordering}
-use Rattle.lara_semiring.specs.Rows.{row_zero, row_plus, row_is_zero, row_plus_assoc, row_zero_plus, row_zero_from_is_zero}
+use Rattle.lara_semiring.specs.Rows.{row_zero, row_plus, row_is_zero, row_plus_assoc, row_zero_plus_plus, row_zero_from_is_zero}
 use Rattle.lara_data.specs.declared.entry.Keyed.{Keyed}
 use Rattle.lara_data.specs.KeyedTables.{IsKeyOrder, Types, Row, same_key, before, at, SameAt, is_below, rises, AllKept, IsTable, total}
-use Rattle.lara_data.specs.KeyedOrder.{same_key_is, after_by}
+use Rattle.lara_data.specs.KeyedOrderLaws.{same_key_is, after_by}
 use Rattle.lara_data.specs.KeyedLaws.{at_whole, SameAt-refl, SameAt-trans, SameAt-cons, SameAt-total, two_turned, IsTable-total, is_below_trans}
 use Rattle.lara_data.specs.KeyedTotals.{total_by}
 
@@ -77,12 +77,12 @@ module _ {K : Type 0} {R : K → K → Ordering} (ko : IsKeyOrder R) where
 
   kept_put : (ts : Types) (e : Keyed K) (t : List (Keyed K)) → AllKept ts t → AllKept ts (put R ts e t)
   unfolding put AllKept
-  kept_put ts e [] h = kept_keep ts e.key (own ts e) [] (row_zero_plus ts (row_zero ts) e.row) tt
+  kept_put ts e [] h = kept_keep ts e.key (own ts e) [] (row_zero_plus_plus ts (row_zero ts) e.row) tt
   kept_put ts e (f ∷ t) h =
       elim (before R e.key f.key) as (λ b. AllKept ts (cond b (keep ts e.key (own ts e) (f ∷ t)) (cond (same_key R e.key f.key) (keep ts f.key (row_plus ts e.row f.row) t) (f ∷ put R ts e t)))) [
-        | true ↦ kept_keep ts e.key (own ts e) (f ∷ t) (row_zero_plus ts (row_zero ts) e.row) h
+        | true ↦ kept_keep ts e.key (own ts e) (f ∷ t) (row_zero_plus_plus ts (row_zero ts) e.row) h
         | false ↦ elim (same_key R e.key f.key) as (λ b. AllKept ts (cond b (keep ts f.key (row_plus ts e.row f.row) t) (f ∷ put R ts e t))) [
-          | true ↦ kept_keep ts f.key (row_plus ts e.row f.row) t (row_zero_plus ts e.row f.row) h.1
+          | true ↦ kept_keep ts f.key (row_plus ts e.row f.row) t (row_zero_plus_plus ts e.row f.row) h.1
           | false ↦ (h.0, kept_put ts e t h.1)
         ]
       ]
@@ -114,7 +114,7 @@ module _ {K : Type 0} {R : K → K → Ordering} (ko : IsKeyOrder R) where
   unfolding at
   at_own ts e t q =
       elim (same_key R q e.key) as (λ b. cond b (row_plus ts (own ts e) (at R ts t q)) (at R ts t q) ≡ cond b (row_plus ts e.row (at R ts t q)) (at R ts t q)) [
-        | true ↦ row_plus_assoc ts (row_zero ts) e.row (at R ts t q) ∙ row_zero_plus ts e.row (at R ts t q)
+        | true ↦ row_plus_assoc ts (row_zero ts) e.row (at R ts t q) ∙ row_zero_plus_plus ts e.row (at R ts t q)
         | false ↦ refl
       ]
 
@@ -129,14 +129,14 @@ module _ {K : Type 0} {R : K → K → Ordering} (ko : IsKeyOrder R) where
 
   pub SameAt-put : (ts : Types) (e : Keyed K) (t : List (Keyed K)) → SameAt R ts (put R ts e t) (e ∷ t)
   unfolding put
-  SameAt-put ts e [] = record { same = λ q. at_keep ts e.key (own ts e) [] q (row_zero_plus ts (row_zero ts) e.row) ∙ at_own ts e [] q }
+  SameAt-put ts e [] = record { same = λ q. at_keep ts e.key (own ts e) [] q (row_zero_plus_plus ts (row_zero ts) e.row) ∙ at_own ts e [] q }
   SameAt-put ts e (f ∷ t) =
       elim (before R e.key f.key) as (λ b. SameAt R ts (cond b (keep ts e.key (own ts e) (f ∷ t)) (cond (same_key R e.key f.key) (keep ts f.key (row_plus ts e.row f.row) t) (f ∷ put R ts e t))) (e ∷ f ∷ t)) [
-        | true ↦ record { same = λ q. at_keep ts e.key (own ts e) (f ∷ t) q (row_zero_plus ts (row_zero ts) e.row) ∙ at_own ts e (f ∷ t) q }
+        | true ↦ record { same = λ q. at_keep ts e.key (own ts e) (f ∷ t) q (row_zero_plus_plus ts (row_zero ts) e.row) ∙ at_own ts e (f ∷ t) q }
         | false ↦ elim (same_key R e.key f.key) as (λ b. same_key R e.key f.key ≡ b → SameAt R ts (cond b (keep ts f.key (row_plus ts e.row f.row) t) (f ∷ put R ts e t)) (e ∷ f ∷ t)) [
           | true ↦ λ s.
               let is : f.key ≡ e.key = sym (same_key_is ko e.key f.key s) in
-              record { same = λ q. at_keep ts f.key (row_plus ts e.row f.row) t q (row_zero_plus ts e.row f.row) ∙ at_two ts f.key e.row f.row t q ∙ ap (λ (k : K). at R ts (record { key = k; row = e.row } ∷ f ∷ t) q) is }
+              record { same = λ q. at_keep ts f.key (row_plus ts e.row f.row) t q (row_zero_plus_plus ts e.row f.row) ∙ at_two ts f.key e.row f.row t q ∙ ap (λ (k : K). at R ts (record { key = k; row = e.row } ∷ f ∷ t) q) is }
           | false ↦ λ s. SameAt-trans ko (SameAt-cons ko ts f (SameAt-put ts e t)) (two_turned ko ts f e t)
         ] refl
       ]

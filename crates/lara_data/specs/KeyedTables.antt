@@ -1,5 +1,5 @@
 -- Tables: what a list of entries has at a key, and the table that it totals to, over any order of keys.
-use Rattle.std.specs.Prelude.{◌≡◌, Bool, true, false, ◌&&◌, List, [], ◌∷◌, if◌then◌else◌}
+use Rattle.std.specs.Prelude.{◌≡◌, Bool, true, false, ◌&&◌, List, [], ◌∷◌, map, if◌then◌else◌}
 use Rattle.std.specs.declared.cmp.Ordering.{Ordering}
 use Rattle.std.specs.Ordering.{is_eq, is_lt}
 use Rattle.std.specs.Cmp.{IsTotalOrder}
@@ -36,6 +36,15 @@ AllKept ts (e ∷ es) = IsKept ts e.row × AllKept ts es
 unfoldable pub all_have : {K : Type 0} → Types → List (Keyed K) → Bool
 all_have ts [] = true
 all_have ts (e ∷ es) = row_has ts e.row && all_have ts es
+
+-- each key of the list has the property
+unfoldable pub AllKeys : {K : Type 0} → (K → Type 0) → List (Keyed K) → Type 0
+AllKeys P [] = Unit {0}
+AllKeys P (e ∷ es) = P e.key × AllKeys P es
+
+-- the entries with other keys
+abbrev pub with_keys : {K L : Type 0} → (K → L) → List (Keyed K) → List (Keyed L)
+with_keys {K} {L} h es = map {A = Keyed K} {B = Keyed L} (λ e. record { key = h e.key; row = e.row }) es
 
 module _ {K : Type 0} (R : K → K → Ordering) where
   -- the keys are one
@@ -88,3 +97,8 @@ module _ {K : Type 0} (R : K → K → Ordering) where
   -- the table whose row at each key is the sum of all rows listed with it
   unfoldable pub total : Types → List (Keyed K) → List (Keyed K)
   total ts es = at_keys ts es (key_set es)
+
+-- the entries are a table of the types
+pub record IsTypedList {K : Type 0} (R : K → K → Ordering) (ts : Types) (es : List (Keyed K)) : Type 0 where
+  pub table : IsTable R ts es
+  pub has : all_have ts es ≡ true

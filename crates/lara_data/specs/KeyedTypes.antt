@@ -5,7 +5,7 @@ use Rattle.std.proofs.lemmas.Bool.{and_parts, and_from}
 use Rattle.std.specs.declared.cmp.Ordering.{Ordering}
 use Rattle.lara_semiring.specs.Rows.{row_has, row_zero, row_plus, row_is_zero, row_plus_has, row_zero_has}
 use Rattle.lara_data.specs.declared.entry.Keyed.{Keyed}
-use Rattle.lara_data.specs.KeyedTables.{all_have, IsKeyOrder, Types, Row, same_key, before, IsTable, total}
+use Rattle.lara_data.specs.KeyedTables.{all_have, IsKeyOrder, Types, Row, same_key, before, IsTable, total, IsTypedList}
 use Rattle.lara_data.specs.KeyedLaws.{IsTable-total}
 use Rattle.lara_data.specs.KeyedPuts.{put, keep, own, puts, total_puts}
 
@@ -68,10 +68,5 @@ module _ {K : Type 0} {R : K → K → Ordering} (ko : IsKeyOrder R) where
   pub total_has : (ts : Types) (es : List (Keyed K)) → all_have ts es ≡ true → all_have ts (total R ts es) ≡ true
   total_has ts es h = ap (all_have ts) (sym (total_puts ko ts es)) ∙ puts_has ts es h
 
--- the entries are a table of the types
-pub record IsTyped {K : Type 0} (R : K → K → Ordering) (ts : Types) (es : List (Keyed K)) : Type 0 where
-  pub table : IsTable R ts es
-  pub has : all_have ts es ≡ true
-
-pub IsTyped-total : {K : Type 0} {R : K → K → Ordering} (ko : IsKeyOrder R) (ts : Types) (es : List (Keyed K)) → all_have ts es ≡ true → IsTyped R ts (total R ts es)
-IsTyped-total ko ts es h = record { table = IsTable-total ko ts es; has = total_has ko ts es h }
+pub IsTypedList-total : {K : Type 0} {R : K → K → Ordering} (ko : IsKeyOrder R) (ts : Types) (es : List (Keyed K)) → all_have ts es ≡ true → IsTypedList R ts (total R ts es)
+IsTypedList-total ko ts es h = record { table = IsTable-total ko ts es; has = total_has ko ts es h }

@@ -14,10 +14,10 @@ pub mod DistinctNames
 pub mod FirstColumns
 pub mod Fits
 pub mod Headings
-pub mod KeyOrders
+pub mod Judgements
 pub mod KeyTypeLaws
 pub mod KeyedLaws
-pub mod KeyedOrder
+pub mod KeyedOrderLaws
 pub mod KeyedPuts
 pub mod KeyedTables
 pub mod KeyedTotals
@@ -33,6 +33,7 @@ pub mod Supports
 pub mod TableTypes
 pub mod Tables
 pub mod TreeSizes
+pub mod TupleOrders
 pub mod TypeRuleLaws
 pub mod TypeRules
 pub mod TypedScripts

@@ -16,7 +16,7 @@ use Rattle.lara_data.specs.KeyTypeLaws.{same_key_types}
 use Rattle.lara_data.specs.TypedTrees.{newer_type, type_named, IsLiteral, OpTyped}
 use Rattle.lara_data.specs.Plugins.{Plugins}
 use Rattle.lara_data.specs.Denotations.{NamedTable, Database, newer_table, table_named, table_or_empty, meaning}
-use Rattle.lara_data.specs.Fits.{IsTableOf, TablesTyped, LoadFits, OpFits, TablesOf}
+use Rattle.lara_data.specs.Fits.{IsTableOf, TablesTyped, LoadFits, OpFits, TablesOf, KnownHaveTables}
 
 -- ---- operators
 
@@ -118,12 +118,7 @@ of_stored ty (Some t) e h = record { columns = e; typed = h }
 
 -- ---- trees
 
--- what is known has tables, and the stored tables are of their types
-pub record Stands (db : Database) (known : List Schema) (tables : List NamedTable) : Type 0 where
-  pub stored : TablesTyped db
-  pub assigned : TablesOf known tables
-
-pub IsTableOf-meaning : (ps : Plugins) (db : Database) (known : List Schema) (tables : List NamedTable) → Stands db known tables → (op : Op) (ty : Columns) → OpTyped known op ty → OpFits ps db op ty → IsTableOf ty (meaning ps db tables op ty)
+pub IsTableOf-meaning : (ps : Plugins) (db : Database) (known : List Schema) (tables : List NamedTable) → KnownHaveTables db known tables → (op : Op) (ty : Columns) → OpTyped known op ty → OpFits ps db op ty → IsTableOf ty (meaning ps db tables op ty)
 unfolding OpTyped OpFits meaning Rattle.lara_data.specs.declared.node.Op.TheBlock.hidden-the_row-Node-0 denote.Hole.Carrier.hidden
 IsTableOf-meaning ps db known tables s (Load n) ty h f = of_stored ty (table_named n db) f (typed_named n db s.stored)
 IsTableOf-meaning ps db known tables s (Named n) ty h f = of_known ty (type_named n known) (table_named n tables) h (finds_named n known tables s.assigned)

@@ -69,6 +69,12 @@ others ns ms = filter (λ n. not (has ns n)) ms
 unfoldable pub same_val : KeyVal → KeyVal → Bool
 same_val a b = same_key key_cmp a b
 
+-- the names ns stand first in the order
+unfoldable pub begins : List Name → List Name → Bool
+begins order [] = true
+begins [] (n ∷ ns) = false
+begins (m ∷ order) (n ∷ ns) = same_name m n && begins order ns
+
 -- ---- laws
 
 pub same_name_is : (a b : Name) → same_name a b ≡ true → a ≡ b
@@ -168,7 +174,7 @@ read_right (m ∷ ns) ms (v ∷ x) y n l h =
       | false ↦ λ e. read_right ns ms x y n (omega arith) e
     ] h
 
--- a name that is among names is none that is not
+-- a name that is among ns differs from one that is not
 pub other_name : (n m : Name) (ns : List Name) → has ns n ≡ false → has ns m ≡ true → same_name m n ≡ false
 other_name n m ns f h =
     elim (same_name m n) as (λ b. same_name m n ≡ b → b ≡ false) [
@@ -176,11 +182,11 @@ other_name n m ns f h =
       | false ↦ λ s. refl
     ] refl
 
--- past the first column
+-- a name that is among ns is read past a first column whose name is not
 pub past_first : (n m : Name) (ns : List Name) (v w : KeyVal) → has ns n ≡ false → has ns m ≡ true → cond (same_name m n) v w ≡ w
 past_first n m ns v w f h = ap (λ b. cond b v w) (other_name n m ns f h)
 
--- a key of as many columns, cut to its own
+-- a tuple, cut to its own columns in their sequence, is unchanged
 pub cut_itself : (ns : List Name) (k : Tuple) → distinct ns ≡ true → length k ≡ length ns → cut ns ns k ≡ k
 unfolding cut read distinct
 cut_itself [] [] d l = refl

@@ -26,13 +26,16 @@ abbrev pub first_among : {K Z : Type 0} {H : K → Type 0} → ((k : K) → Ghos
 first_among m [] name = None
 first_among m (p ∷ ps) name = if same_name ((m p.vtable).called p.value) name then Some p else first_among m ps name
 
+-- the first of the plugins that has the name
 abbrev pub first_of : (ps : Plugins) → Name → Option (DynBox ps.Kind ps.Memory ps.Held)
 first_of ps name = first_among ps.meaning ps.boxes name
 
+-- the types of the key columns that a plugin adds; none where there is no plugin or it refuses
 abbrev pub accepted_by : (ps : Plugins) → Option (DynBox ps.Kind ps.Memory ps.Held) → Columns → List Arg → Option (List KeyType)
 accepted_by ps None ty args = None
 accepted_by ps (Some p) ty args = (ps.meaning p.vtable).accepted p.value ty args
 
+-- the tuples that a plugin has for a key, as it gives them; none where there is no plugin
 abbrev pub given_by : (ps : Plugins) → Option (DynBox ps.Kind ps.Memory ps.Held) → Columns → List Arg → Tuple → List Tuple
 given_by ps None ty args key = []
 given_by ps (Some p) ty args key = (ps.meaning p.vtable).given p.value ty args key

@@ -10,8 +10,8 @@ use Rattle.lara_data.specs.Tables.{Table}
 use Rattle.lara_data.specs.TypedScripts.{StatementTyped, known_after, all_known, AllTyped, ScriptTyped}
 use Rattle.lara_data.specs.Plugins.{Plugins}
 use Rattle.lara_data.specs.Denotations.{Database, newer_table, table_named, meaning, Running, after, before_all, after_all, Stored, with_table, after_stores}
-use Rattle.lara_data.specs.Fits.{TablesTyped, TablesOf, StatementFits, ScriptFits}
-use Rattle.lara_data.specs.MeaningLaws.{Stands, TablesOf-more, IsTableOf-meaning}
+use Rattle.lara_data.specs.Fits.{TablesTyped, TablesOf, StatementFits, ScriptFits, KnownHaveTables}
+use Rattle.lara_data.specs.MeaningLaws.{TablesOf-more, IsTableOf-meaning}
 
 -- ---- typed scripts
 
@@ -50,28 +50,29 @@ after_all-more ps db ss s = from before_all ss
     from r (q ∷ ss) = from (after ps db r q) ss
 
 -- what is known has its tables after one more statement
-pub Stands-after : (ps : Plugins) (db : Database) (known : List Schema) (r : Running) (s : Statement) → Stands db known r.tables → StatementTyped known s → StatementFits ps db s → Stands db (known_after known s) (after ps db r s).tables
-Stands-after ps db known r (Assign name node) h t f =
+pub KnownHaveTables-after : (ps : Plugins) (db : Database) (known : List Schema) (r : Running) (s : Statement) → KnownHaveTables db known r.tables → StatementTyped known s → StatementFits ps db s → KnownHaveTables db (known_after known s) (after ps db r s).tables
+KnownHaveTables-after ps db known r (Assign name node) h t f =
     record {
       stored = h.stored;
       assigned = TablesOf-more known r.tables (record { name = name; ty = node.ty }) (record { name = name; table = meaning ps db r.tables node.op node.ty }) h.assigned refl (IsTableOf-meaning ps db known r.tables h node.op node.ty t f);
     }
-Stands-after ps db known r (Print name order) h t f = h
-Stands-after ps db known r (Store old new) h t f = h
+KnownHaveTables-after ps db known r (Print name order) h t f = h
+KnownHaveTables-after ps db known r (Store old new) h t f = h
 
-stands_from : (ps : Plugins) (db : Database) (known : List Schema) (r : Running) (ss : List Statement) (i : ℕ) → Stands db known r.tables → AllTyped known ss → ScriptFits ps db ss → Stands db (fold known_after known (take i ss)) (fold (after ps db) r (take i ss)).tables
+stands_from : (ps : Plugins) (db : Database) (known : List Schema) (r : Running) (ss : List Statement) (i : ℕ) → KnownHaveTables db known r.tables → AllTyped known ss → ScriptFits ps db ss → KnownHaveTables db (fold known_after known (take i ss)) (fold (after ps db) r (take i ss)).tables
 unfolding AllTyped ScriptFits
 stands_from ps db known r ss zero h t f = h
 stands_from ps db known r [] (suc i) h t f = h
-stands_from ps db known r (s ∷ ss) (suc i) h t f = stands_from ps db (known_after known s) (after ps db r s) ss i (Stands-after ps db known r s h t.0 f.0) t.1 f.1
+stands_from ps db known r (s ∷ ss) (suc i) h t f = stands_from ps db (known_after known s) (after ps db r s) ss i (KnownHaveTables-after ps db known r s h t.0 f.0) t.1 f.1
 
 -- what is known has its tables behind the first statements of a typed script that fits
-pub Stands-take : (ps : Plugins) (db : Database) (ss : List Statement) (i : ℕ) → TablesTyped db → ScriptTyped ss → ScriptFits ps db ss → Stands db (all_known [] (take i ss)) (after_all ps db (take i ss)).tables
+pub KnownHaveTables-take : (ps : Plugins) (db : Database) (ss : List Statement) (i : ℕ) → TablesTyped db → ScriptTyped ss → ScriptFits ps db ss → KnownHaveTables db (all_known [] (take i ss)) (after_all ps db (take i ss)).tables
 unfolding all_known after_all TablesOf
-Stands-take ps db ss i d t f = stands_from ps db [] before_all ss i (record { stored = d; assigned = tt }) t f
+KnownHaveTables-take ps db ss i d t f = stands_from ps db [] before_all ss i (record { stored = d; assigned = tt }) t f
 
 -- ---- databases
 
+-- the names of the stored tables
 abbrev pub names_of : Database → List Name
 names_of db = map (λ d. d.name) db
 

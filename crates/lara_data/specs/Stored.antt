@@ -4,12 +4,12 @@ use Rattle.std.proofs.Common.{refl, sym, ap, ◌∙◌, subst}
 use Rattle.std.specs.List.{flat_map}
 use Rattle.lara_semiring.specs.Rows.{row_plus}
 use Rattle.lara_key.specs.Keys.{tuple_cmp}
-use Rattle.lara_data.specs.KeyedTables.{Row, total, at, same_key, IsTable}
+use Rattle.lara_data.specs.KeyedTables.{Row, total, at, same_key, IsTable, with_keys, AllKeys}
 use Rattle.lara_data.specs.KeyedLaws.{at_cons, SameAt-refl, SameAt-trans, SameAt-append, SameAt-total}
 use Rattle.lara_data.specs.KeyedTotals.{total_same, total_table}
-use Rattle.lara_data.specs.Apart.{AllKeys, keys_total, keys_append, keys_flat, flat_rekeyed}
-use Rattle.lara_data.specs.Builders.{with_keys, with_keys_append}
-use Rattle.lara_data.specs.KeyOrders.{tuple_order}
+use Rattle.lara_data.specs.Apart.{keys_total, keys_append, keys_flat, flat_rekeyed}
+use Rattle.lara_data.specs.Builders.{with_keys_append}
+use Rattle.lara_data.specs.TupleOrders.{tuple_order}
 use Rattle.lara_data.specs.TableTypes.{types}
 use Rattle.lara_data.specs.Names.{Name, Tuple, cut, among, common, others, among_itself, among_trans, cut_cut}
 use Rattle.lara_data.specs.Vals.{brought}

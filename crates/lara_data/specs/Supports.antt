@@ -8,7 +8,7 @@ use Rattle.std.specs.declared.cmp.Ordering.{Ordering}
 use Rattle.lara_semiring.specs.Rows.{row_zero, row_plus, row_is_zero, row_zero_is_zero}
 use Rattle.lara_data.specs.declared.entry.Keyed.{Keyed}
 use Rattle.lara_data.specs.KeyedTables.{IsKeyOrder, Types, Row, same_key, before, at, is_below, AllKept, IsTable, total}
-use Rattle.lara_data.specs.KeyedOrder.{same_key_is, after_apart}
+use Rattle.lara_data.specs.KeyedOrderLaws.{same_key_is, after_apart}
 use Rattle.lara_data.specs.KeyedLaws.{at_none, at_total, at_first, rest_at, table_rest, first_rising, first_kept, IsTable-total}
 
 -- the sum of rows

@@ -13,7 +13,8 @@ use Rattle.lara_data.specs.declared.table_type.KeyCol.{KeyCol}
 use Rattle.lara_data.specs.declared.table_type.ValCol.{ValCol}
 use Rattle.lara_data.specs.TableTypes.{Columns, key_names, has_key, has_val, are_vals_distinct, are_distinct, are_columns}
 use Rattle.lara_data.specs.Names.{Name, same_name, same_name_is, has, has_head, has_tail, has_append, has_among, among, distinct, common, others, or_by, not_true}
-use Rattle.lara_data.specs.Vals.{Vals, same_type, same_col, same_col_is, same_col_itself, has_col}
+use Rattle.lara_semiring.specs.Values.{same_val_type}
+use Rattle.lara_data.specs.Vals.{Vals, same_col, same_col_is, same_col_itself, has_col}
 use Rattle.lara_data.specs.Sequences.{SameNames, SameNames-by, turned_name, has_filter, has_others}
 use Rattle.lara_data.specs.DistinctNames.{distinct_filter, distinct_others, filter_shorter, same_length}
 use Rattle.lara_data.specs.DistinctColumns.{has_key_is, vals_distinct, distinct_key_names}
@@ -142,7 +143,7 @@ not_alone false q e h = cc
 -- where no types differ, a right value column of a left one's name is the left one
 same_by : (v d : ValCol) → is_other_val v d ≡ false → same_name v.name d.name ≡ true → same_col v d ≡ true
 unfolding same_col
-same_by v d h e = and_from (same_name v.name d.name) (same_type v.ty d.ty) e (not_alone (same_name v.name d.name) (same_type v.ty d.ty) e h)
+same_by v d h e = and_from (same_name v.name d.name) (same_val_type v.ty d.ty) e (not_alone (same_name v.name d.name) (same_val_type v.ty d.ty) e h)
 
 -- a left value column's name is none of a right-only one
 not_right : (cs ds : Vals) (v : ValCol) → has_col cs v ≡ true → list_any (is_other_val v) ds ≡ false → has_val v.name (filter (λ d. not (has_col cs d)) ds) ≡ false
@@ -217,18 +218,20 @@ distinct_agg a ks p h d =
 
 -- ---- the rules
 
--- the rules that are met where there is a type
+-- the rules that a join of type c meets
 pub record IsJoin (a b c : Columns) : Type 0 where
   pub agree : types_differ a b ≡ false
   pub some : is_none (common_vals a.vals b.vals) ≡ false
   pub few : too_many (join_columns a b) ≡ false
   pub is : join_columns a b ≡ c
 
+-- the rules that a union of type c meets
 pub record IsUnion (a b c : Columns) : Type 0 where
   pub agree : types_differ a b ≡ false
   pub few : too_many (union_columns a b) ≡ false
   pub is : union_columns a b ≡ c
 
+-- the rules that an agg by ks of type c meets
 pub record IsAgg (a : Columns) (ks : List Name) (c : Columns) : Type 0 where
   pub keys : among (key_names a.keys) ks ≡ true
   pub once : distinct ks ≡ true

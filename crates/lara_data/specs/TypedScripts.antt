@@ -22,6 +22,7 @@ abbrev pub StoreTyped : Option Columns → Type 0
 StoreTyped None = ⊥
 StoreTyped (Some ty) = Unit {0}
 
+-- the statement is typed, where these names are known
 abbrev pub StatementTyped : List Schema → Statement → Type 0
 StatementTyped known (Assign name node) = IsTyped known node
 StatementTyped known (Print name order) = PrintTyped (type_named name known) order

@@ -9,11 +9,11 @@ use Rattle.lara_key.specs.declared.key.KeyVal.{KeyVal}
 use Rattle.lara_key.specs.Keys.{has_key_type, tuple_has, tuple_has_length, tuple_cmp}
 use Rattle.lara_data.specs.declared.table_type.KeyCol.{KeyCol}
 use Rattle.lara_data.specs.TableTypes.{Columns, types, key_types, key_names, are_columns}
-use Rattle.lara_data.specs.KeyedTables.{all_have, IsTable}
+use Rattle.lara_data.specs.KeyedTables.{all_have, IsTable, AllKeys}
 use Rattle.lara_data.specs.KeyedLaws.{IsTable-total}
-use Rattle.lara_data.specs.Apart.{AllKeys, keys_total, keys_append}
+use Rattle.lara_data.specs.Apart.{keys_total, keys_append}
 use Rattle.lara_data.specs.KeyedTypes.{total_has}
-use Rattle.lara_data.specs.KeyOrders.{tuple_order}
+use Rattle.lara_data.specs.TupleOrders.{tuple_order}
 use Rattle.lara_data.specs.Names.{Name, Tuple, same_name, same_name_is, same_name_itself, has, has_head, read, cut, among, among_by, distinct, common, others, cut_itself, not_true}
 use Rattle.lara_data.specs.Tables.{Entry, Entries, Table, table_of, recut}
 use Rattle.lara_data.specs.Algebra.{Heading, heading, common_vals, union_heading, agree, join_key, join_row, pair, pairs, join, shares, union, agg, key_col, key_cols, join_columns, union_columns, agg_columns, join_tables, union_tables, agg_table}

@@ -8,12 +8,12 @@ use Rattle.lara_data.specs.declared.node.Op.TheVariants.{Load, Named, Literal, J
 use Rattle.lara_data.specs.declared.schema.Schema.{Schema}
 use Rattle.lara_data.specs.TableTypes.{Columns, types, are_columns}
 use Rattle.lara_data.specs.Names.{Name, same_name}
-use Rattle.lara_data.specs.Apart.{AllKeys}
-use Rattle.lara_data.specs.KeyedTables.{all_have}
+use Rattle.lara_data.specs.KeyedTables.{AllKeys, all_have}
 use Rattle.lara_data.specs.TypedTables.{KeyHas}
 use Rattle.lara_data.specs.Tables.{Entries, is_entry_in_range}
 use Rattle.lara_data.specs.TypeRules.{join_type, union_type, agg_type}
 
+-- the type of the later one where it has the name, else what was found before
 abbrev pub newer_type : Name → Option Columns → Schema → Option Columns
 newer_type n found known = if same_name n known.name then Some known.ty else found
 

@@ -6,8 +6,8 @@ use Rattle.std.specs.List.{list_any}
 use Rattle.lara_semiring.specs.declared.value.ValType.{ValType}
 use Rattle.lara_semiring.specs.declared.value.ValType.TheVariants as ty
 use Rattle.lara_semiring.specs.declared.value.Value.{Value}
-use Rattle.lara_semiring.specs.Values.{has_type, value_zero, value_plus, value_plus_zero, value_zero_is}
-use Rattle.lara_semiring.specs.Rows.{first, rest, row_has, row_zero, row_plus, row_zero_plus, row_zero_twice}
+use Rattle.lara_semiring.specs.Values.{same_val_type, same_val_type_is, same_val_type_itself, has_type, value_zero, value_plus, value_zero_plus, value_zero_is}
+use Rattle.lara_semiring.specs.Rows.{first, rest, row_has, row_zero, row_plus, row_zero_plus_plus, row_zero_twice}
 use Rattle.lara_semiring.specs.Products.{row_times, row_times_plus, row_plus_times, row_times_zero, row_zero_times, row_zero_plus_times}
 use Rattle.lara_data.specs.KeyedTables.{Types, Row}
 use Rattle.lara_data.specs.Builders.{IsLinear}
@@ -19,14 +19,10 @@ use Rattle.lara_data.specs.Names.{same_name, same_name_is, same_name_itself}
 abbrev pub Vals : Type 0
 Vals = List ValCol
 
--- the types are one
-abbrev pub same_type : ValType → ValType → Bool
-same_type ty.Count ty.Count = true
-
 -- the columns are one: a value column is its name with its type, so that one of another type is another column; where
 -- types are checked no two tables of an operation have value columns of one name and two types
 unfoldable pub same_col : ValCol → ValCol → Bool
-same_col a b = same_name a.name b.name && same_type a.ty b.ty
+same_col a b = same_name a.name b.name && same_val_type a.ty b.ty
 
 -- the column is among these
 unfoldable pub has_col : Vals → ValCol → Bool
@@ -44,25 +40,19 @@ brought ds cs r = map (read_val ds r) cs
 
 -- ---- laws
 
-same_type_is : (s t : ValType) → same_type s t ≡ true → s ≡ t
-same_type_is ty.Count ty.Count e = refl
-
-same_type_itself : (t : ValType) → same_type t t ≡ true
-same_type_itself ty.Count = refl
-
 pub same_col_is : (a b : ValCol) → same_col a b ≡ true → a ≡ b
 unfolding same_col
 same_col_is a b e =
-    let n = same_name_is a.name b.name (and_parts (same_name a.name b.name) (same_type a.ty b.ty) e).0 in
-    let t = same_type_is a.ty b.ty (and_parts (same_name a.name b.name) (same_type a.ty b.ty) e).1 in
+    let n = same_name_is a.name b.name (and_parts (same_name a.name b.name) (same_val_type a.ty b.ty) e).0 in
+    let t = same_val_type_is a.ty b.ty (and_parts (same_name a.name b.name) (same_val_type a.ty b.ty) e).1 in
     λ i. record { name = n i; ty = t i }
 
 pub same_col_itself : (a : ValCol) → same_col a a ≡ true
 unfolding same_col
-same_col_itself a = and_from _ _ (same_name_itself a.name) (same_type_itself a.ty)
+same_col_itself a = and_from _ _ (same_name_itself a.name) (same_val_type_itself a.ty)
 
 pub zero_zero : (t : ValType) → value_plus t (value_zero t) (value_zero t) ≡ value_zero t
-zero_zero t = value_plus_zero t (value_zero t) (value_zero_is t)
+zero_zero t = value_zero_plus t (value_zero t) (value_zero_is t)
 
 first_of_type : (s t : ValType) (r q : Row) → s ≡ t → value_plus s (first s r) (first s q) ≡ value_plus t (first s r) (first s q)
 first_of_type s t r q e = ap (λ x. value_plus x (first s r) (first s q)) e
@@ -99,7 +89,7 @@ brought_zero ds (c ∷ cs) = λ i. read_zero ds c i ∷ brought_zero ds cs i
 pub brought_linear : (ds cs : Vals) → IsLinear (types ds) (types cs) (brought ds cs)
 brought_linear ds cs = record {
   none = ap (row_plus (types cs) (row_zero (types cs))) (brought_zero ds cs) ∙ row_zero_twice (types cs);
-  plus = λ r q. ap (row_plus (types cs) (row_zero (types cs))) (brought_plus ds cs r q) ∙ row_zero_plus (types cs) (brought ds cs r) (brought ds cs q);
+  plus = λ r q. ap (row_plus (types cs) (row_zero (types cs))) (brought_plus ds cs r q) ∙ row_zero_plus_plus (types cs) (brought ds cs r) (brought ds cs q);
 }
 
 -- a product with a row on the right, and with one on the left, goes through sums

@@ -9,6 +9,7 @@ mod expr;
 mod faults;
 mod limits;
 mod node;
+mod op_columns;
 mod order;
 mod plugin;
 mod refusal;
@@ -20,20 +21,21 @@ mod table_type;
 pub use arg::{Arg, Call, Def, KeyDef, NamePair};
 pub use columns::{
     all_keys, all_vals, common_keys, common_vals, is_key_name, key_cols, key_names, other_keys,
-    same_col, same_type,
+    same_col, val_types,
 };
 pub use entry::{Cell, Entry, Keyed};
 pub use expr::{Expr, FunOp, TwoOp};
 pub use faults::{FileFault, IterFault};
 pub use limits::MAX_COLS;
 pub use node::{Node, Op};
+pub use op_columns::{agg_columns, join_columns, union_columns};
 pub use order::{EachOp, Order};
 pub use plugin::Plugin;
 pub use refusal::{Kind, ReadFault, Refusal};
 pub use schema::Schema;
 pub use script::{Script, Statement};
 pub use shape::{ColPair, JoinShape, Shape};
-pub use table_type::{KeyCol, TableType, ValCol};
+pub use table_type::{KeyCol, TableType, ValCol, has_key, has_val};
 
 #[cfg(test)]
 mod tests;

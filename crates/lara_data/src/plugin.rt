@@ -25,6 +25,7 @@ pub trait Plugin: Drop {
     /// The tuples that it has for a key, in any order, as often as it likes and of any types.
     ghost given: { Self → Columns → Listing Given → Key → Listing Key };
 
+    /// The name under which a script applies it.
     fn name(&self) -> &Name
         ensures { result.now ≡ called self.now };
 

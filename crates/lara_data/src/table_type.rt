@@ -68,15 +68,15 @@ impl Copied for TableType {
     }
 }
 
-// Whether a key column has the name.
-fn has_key(keys: &[KeyCol], name: &Name) -> bool
+/// Whether a key column has the name.
+pub fn has_key(keys: &[KeyCol], name: &Name) -> bool
     ensures { result ≡ has_key name.now keys.now }
 {
     keys.iter().any(|k| k.name.same(name))
 }
 
-// Whether a value column has the name.
-fn has_val(vals: &[ValCol], name: &Name) -> bool
+/// Whether a value column has the name.
+pub fn has_val(vals: &[ValCol], name: &Name) -> bool
     ensures { result ≡ has_val name.now vals.now }
 {
     vals.iter().any(|v| v.name.same(name))

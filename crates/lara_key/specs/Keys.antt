@@ -9,19 +9,26 @@ use Rattle.std.specs.Cmp.Lexicographic.{slice_cmp}
 use Rattle.std.specs.FinMap.{IsAntisymmetric, slice_cmp-IsAntisymmetric}
 use Rattle.std.proofs.lemmas.Bool.{and_parts}
 use Rattle.std.proofs.lemmas.Cmp.{lists_total}
-use Rattle.lara_key.specs.Orders.{IsCoded, coded_total, coded_antisymmetric}
+use Rattle.lara_key.specs.Orders.{IsRanked, coded_total, coded_antisymmetric}
 use Rattle.lara_key.specs.declared.key.KeyType.{KeyType}
 use Rattle.lara_key.specs.declared.key.KeyType.TheVariants as ty
 use Rattle.lara_key.specs.declared.key.KeyVal.{KeyVal}
 use Rattle.lara_key.specs.declared.key.KeyVal.TheVariants as key
 
 -- the greatest `nat`, which stands for all beyond the range
-abbrev pub top : ℕ
-top = 2 ^ 64 - 1
+abbrev pub nat_over : ℕ
+nat_over = 2 ^ 64 - 1
+
+-- the types are one
+abbrev pub same_key_type : KeyType → KeyType → Bool
+same_key_type ty.Nat ty.Nat = true
+
+pub same_key_type_is : (s t : KeyType) → same_key_type s t ≡ true → s ≡ t
+same_key_type_is ty.Nat ty.Nat h = refl
 
 -- the column is one of the type
 unfoldable pub has_key_type : KeyType → KeyVal → Bool
-has_key_type ty.Nat (key.Nat n) = nat_le n top
+has_key_type ty.Nat (key.Nat n) = nat_le n nat_over
 
 -- a tuple with one column of each type
 unfoldable pub tuple_has : List KeyType → List KeyVal → Bool
@@ -47,7 +54,7 @@ tuple_has_at (t ∷ ts) (v ∷ vs) (suc i) d x h l = tuple_has_at ts vs i d x ((
 
 -- the column stands for all that are beyond the range of its type
 unfoldable pub key_is_over : KeyVal → Bool
-key_is_over (key.Nat n) = nat_le top n
+key_is_over (key.Nat n) = nat_le nat_over n
 
 -- columns of one type by their value, and of two types by the type
 abbrev pub key_cmp : KeyVal → KeyVal → Ordering
@@ -58,23 +65,23 @@ unfoldable pub tuple_cmp : List KeyVal → List KeyVal → Ordering
 tuple_cmp = slice_cmp key_cmp
 
 -- the number of the type, then the value
-key_code : KeyVal → List ℕ
-key_code (key.Nat a) = 0 ∷ a ∷ []
+key_rank : KeyVal → List ℕ
+key_rank (key.Nat a) = 0 ∷ a ∷ []
 
 then_equal : (o : Ordering) → o ≡ ordering_then o Equal
 then_equal Less = refl
 then_equal Equal = refl
 then_equal Greater = refl
 
-agrees : (x y : KeyVal) → key_cmp x y ≡ slice_cmp nat_cmp (key_code x) (key_code y)
-unfolding key_code
+agrees : (x y : KeyVal) → key_cmp x y ≡ slice_cmp nat_cmp (key_rank x) (key_rank y)
+unfolding key_rank
 agrees (key.Nat a) (key.Nat b) = then_equal (nat_cmp a b)
 
-apart : (x y : KeyVal) → key_code x ≡ key_code y → x ≡ y
-unfolding key_code
+apart : (x y : KeyVal) → key_rank x ≡ key_rank y → x ≡ y
+unfolding key_rank
 apart (key.Nat a) (key.Nat b) e = ap key.Nat (cc)
 
-key_coded : IsCoded key_cmp key_code
+key_coded : IsRanked key_cmp key_rank
 key_coded = record { agrees = agrees; apart = apart }
 
 pub key_cmp_total : IsTotalOrder key_cmp

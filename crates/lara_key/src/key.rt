@@ -1,5 +1,6 @@
 //! Key columns and tuples of them.
-ghost use Rattle.std.specs.Prelude.{◌≡◌, IfOk, IsOk};
+ghost use Rattle.std.specs.Prelude.{◌≡◌, true, IfOk, IsOk};
+ghost use Rattle.lara_key.specs.Keys.{same_key_type};
 
 use lara_base::{Copied, List};
 use std::alloc::{AllocError, Global};
@@ -36,6 +37,15 @@ impl Copied for KeyVal {
         match self {
             KeyVal::Nat(n) => Ok(KeyVal::Nat(*n)),
         }
+    }
+}
+
+/// Whether two types of key columns are one.
+pub fn same_key_type(a: KeyType, b: KeyType) -> bool
+    ensures { result ≡ same_key_type a b }
+{
+    match (a, b) {
+        (KeyType::Nat, KeyType::Nat) => true,
     }
 }
 

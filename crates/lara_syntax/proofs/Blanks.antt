@@ -3,7 +3,7 @@ use Rattle.std.proofs.Common.{◌≡◌, ℕ, List, [], ◌∷◌, refl, sym, su
 use Rattle.std.specs.Prelude.{not, ◌==◌}
 use Rattle.std.proofs.lemmas.Bool.{eqb-true, eqb-false, false_from_ne_true}
 use Rattle.lara_syntax.specs.ByteClasses.{is_space, blank_in, after_blank}
-use Rattle.lara_syntax.specs.Readings.{Line, line_end, script_end, in_line, Blank, no_more, space, comment}
+use Rattle.lara_syntax.specs.TokenReadings.{Line, line_end, script_end, in_line, Blank, no_more, space, comment}
 
 -- the first byte, where there is one, is no blank
 abbrev pub Solid : List ℕ → Type 0

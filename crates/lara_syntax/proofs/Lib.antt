@@ -19,8 +19,8 @@ pub mod ScriptLaws
 pub mod SignLaws
 pub mod SliceLaws
 pub mod Sound
+pub mod SoundTokens
 pub mod SoundWords
-pub mod Sounds
 pub mod TextLaws
 pub mod Turns
 pub mod Viable

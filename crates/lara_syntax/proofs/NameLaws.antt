@@ -3,6 +3,7 @@ use Rattle.std.proofs.Common.{◌≡◌, ◌≤◌, ◌<◌, ℕ, [], ◌∷◌,
 use Rattle.std.specs.Prelude.{not, ◌&&◌, nat_lt}
 use Rattle.std.specs.List.{list_all}
 use Rattle.std.proofs.lemmas.List.{take-append-drop}
+use Rattle.lara_data.specs.Names.{not_true}
 use Rattle.lara_base.specs.Names.{starts_name, goes_on, is_keyword, is_name}
 use Rattle.lara_data.specs.declared.refusal.Kind.TheVariants.{TooLong}
 use Rattle.lara_syntax.specs.declared.item.Keyword.{Keyword}
@@ -10,13 +11,13 @@ use Rattle.lara_syntax.specs.declared.item.Lexeme.{Lexeme}
 use Rattle.lara_syntax.specs.declared.item.Lexeme.TheVariants as lexeme
 use Rattle.lara_syntax.specs.ScanSteps.{Bytes, Scan}
 use Rattle.lara_syntax.specs.ByteClasses.{run_len}
-use Rattle.lara_syntax.specs.WordTexts.{keyword_text, keyword_of}
+use Rattle.lara_syntax.specs.FixedWords.{keyword_text, keyword_of}
 use Rattle.lara_syntax.specs.TokenWords.{name_word, name_by}
 use Rattle.lara_syntax.specs.Spellings.{StartsNot, long_name}
 use Rattle.lara_syntax.proofs.Gather.{scan_of, erred}
 use Rattle.lara_syntax.proofs.Numbers.{run-passes}
 use Rattle.lara_syntax.proofs.Runs.{run-stops, take-run, drop-run}
-use Rattle.lara_syntax.proofs.Sounds.{Sound}
+use Rattle.lara_syntax.proofs.SoundTokens.{Sound}
 use Rattle.lara_syntax.proofs.WordLaws.{starts-goes_on}
 use Rattle.lara_syntax.proofs.WordTextLaws.{both, keyword_of-none, none-keyword, keyword_of-is, is_word, keyword-is_word, keyword_of-text}
 
@@ -36,10 +37,6 @@ pub record NameParts (n : Bytes) : Type 0 where
 
 three : (a b c : Bool) → ((a && b) && c) ≡ true → (a ≡ true) × (b ≡ true) × (c ≡ true)
 three a b c e = let p = both (a && b) c e in let q = both a b p.0 in (q.0, q.1, p.1)
-
-not_true : (b : Bool) → not b ≡ true → b ≡ false
-not_true false e = refl
-not_true true e = absurd cc
 
 pub name_parts : (n : Bytes) → is_name n ≡ true → NameParts n
 unfolding is_name

@@ -16,7 +16,7 @@ use Rattle.lara_syntax.specs.Spellings.{StartsNot, AreDigits, too_great, letter_
 use Rattle.lara_syntax.proofs.Gather.{scan_of, erred}
 use Rattle.lara_syntax.proofs.Numbers.{run-passes, within_some, past, none_past}
 use Rattle.lara_syntax.proofs.Runs.{run-stops, take-run, drop-run}
-use Rattle.lara_syntax.proofs.Sounds.{Sound}
+use Rattle.lara_syntax.proofs.SoundTokens.{Sound}
 
 -- ---- letters and digits
 

@@ -7,7 +7,7 @@ use Rattle.lara_syntax.specs.declared.ast.Ast.{Ast}
 use Rattle.lara_syntax.specs.Limits.{most}
 use Rattle.lara_syntax.specs.Steps.{Items}
 use Rattle.lara_syntax.specs.Grammar.{Script}
-use Rattle.lara_syntax.specs.Readings.{Reads}
+use Rattle.lara_syntax.specs.TokenReadings.{Reads}
 use Rattle.lara_syntax.specs.Parsed.{parsed}
 use Rattle.lara_syntax.specs.Scripts.{Stands, SomeBegins, NoneBegins}
 use Rattle.lara_syntax.specs.Refusals.{KindOf, too_many, unexpected, Refuses, at_word, at_end, at_token}

@@ -20,7 +20,7 @@ use Rattle.lara_syntax.specs.Refusals.{Refuses, at_word, at_end, at_token}
 use Rattle.lara_syntax.specs.Scripts.{Stands, SomeBegins}
 use Rattle.lara_syntax.proofs.Turns.{read_of, erred}
 use Rattle.lara_syntax.proofs.Readers.{ok_err}
-use Rattle.lara_syntax.specs.Readings.{Reads}
+use Rattle.lara_syntax.specs.TokenReadings.{Reads}
 use Rattle.lara_syntax.proofs.ReadLaws.{items-read, reads-items}
 use Rattle.lara_syntax.proofs.Complete.{script_reads}
 use Rattle.lara_syntax.proofs.ScriptLaws.{script_sound, StopsAt, stops_at, stopped_whole, begins_whole, none_begins, script_kinds, kind_of}

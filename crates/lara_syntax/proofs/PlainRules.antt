@@ -11,7 +11,7 @@ use Rattle.lara_syntax.specs.declared.fault.Fault.TheVariants as faults
 use Rattle.lara_syntax.specs.declared.ast.AstEntry.{AstEntry}
 use Rattle.lara_syntax.specs.Steps.{Items, Read, Reader, ◌>>=◌, give, refuse, peek, skip, items_from, head_word}
 use Rattle.lara_syntax.specs.Reading as r
-use Rattle.lara_syntax.specs.WordTexts.{same_sign}
+use Rattle.lara_syntax.specs.FixedWords.{same_sign}
 use Rattle.lara_syntax.specs.Reading.{sign, sign_by}
 use Rattle.lara_syntax.proofs.Turns.{TakesOne, erred, list-some, list-none, list-fail}
 use Rattle.lara_syntax.proofs.Readers.{bind_err, ok_err, stop_is}

@@ -10,12 +10,12 @@ use Rattle.lara_syntax.specs.ByteClasses.{after_blank}
 use Rattle.lara_syntax.specs.TokenWords.{word_at, item_here, item_by, stop_at, refused}
 use Rattle.lara_syntax.specs.Tokens.{scanned, items_of, items_in, stop_of, stop_in}
 use Rattle.lara_syntax.specs.Spellings.{Spells, Ends, Wrong, long_name, too_great, letter_behind, no_text, no_token, AreDigits}
-use Rattle.lara_syntax.specs.Readings.{Blank, place, Reads, IsOnlyReading, ended, stopped, next}
+use Rattle.lara_syntax.specs.TokenReadings.{Blank, place, Reads, IsOnlyReading, ended, stopped, next}
 use Rattle.lara_syntax.proofs.Blanks.{Solid, after_blank-blank, after_blank-solid, blank-after}
 use Rattle.lara_syntax.proofs.Gather.{scan_of, erred, err_ok}
 use Rattle.lara_syntax.proofs.ItemLaws.{one_item, no_item, scanned-rest}
 use Rattle.lara_syntax.proofs.Listed.{Listed, none, more, gather-listed}
-use Rattle.lara_syntax.proofs.Sounds.{Sound}
+use Rattle.lara_syntax.proofs.SoundTokens.{Sound}
 use Rattle.lara_syntax.proofs.WordLaws.{item_here-one}
 use Rattle.lara_syntax.proofs.WordReads.{word_at-spells, word_at-wrong, word_at-sound, spells-solid, wrong-solid, first_digit}
 

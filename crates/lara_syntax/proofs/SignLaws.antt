@@ -5,11 +5,11 @@ use Rattle.lara_syntax.specs.declared.item.Lexeme.{Lexeme}
 use Rattle.lara_syntax.specs.declared.item.Lexeme.TheVariants as lexeme
 use Rattle.lara_syntax.specs.declared.item.Sign.{Sign}
 use Rattle.lara_syntax.specs.ScanSteps.{Bytes, Scan}
-use Rattle.lara_syntax.specs.WordTexts.{sign_text, sign_of}
+use Rattle.lara_syntax.specs.FixedWords.{sign_text, sign_of}
 use Rattle.lara_syntax.specs.TokenWords.{one_sign, one_sign_by, sign_word, two_sign_by}
 use Rattle.lara_syntax.specs.Spellings.{Ends, Wrong}
 use Rattle.lara_syntax.proofs.Gather.{scan_of, erred, err_ok}
-use Rattle.lara_syntax.proofs.Sounds.{Sound}
+use Rattle.lara_syntax.proofs.SoundTokens.{Sound}
 use Rattle.lara_syntax.proofs.WordTextLaws.{Shape, one, two, sign-shape, sign_of-is, sign_of-text}
 
 abbrev pub signed : Sign → Bytes → Scan Lexeme

@@ -9,7 +9,7 @@ use Rattle.lara_syntax.specs.Tokens.{items_of, stop_of}
 use Rattle.lara_syntax.specs.Spellings.{Spells}
 use Rattle.lara_syntax.specs.Spans.{AreSlices}
 use Rattle.lara_syntax.specs.TokenLists.{token_of, Show, ShowAll}
-use Rattle.lara_syntax.specs.Readings.{Line, line_end, script_end, in_line, Blank, no_more, space, comment, place, Reads, ended, stopped, next}
+use Rattle.lara_syntax.specs.TokenReadings.{Line, line_end, script_end, in_line, Blank, no_more, space, comment, place, Reads, ended, stopped, next}
 use Rattle.lara_syntax.proofs.ItemLaws.{items-in_order}
 use Rattle.lara_syntax.proofs.ReadLaws.{items-read, reads-items}
 

@@ -20,7 +20,7 @@ use Rattle.lara_syntax.specs.Reading.{sign, sign_by, comma_by}
 use Rattle.lara_syntax.specs.Grammar.{Word, word, Mark, Named, Lit, number, KeyTyped, nat, ValTyped, count, Many, none, more, CommaThen, comma_then, Commas, commas, Maybe, nothing}
 use Rattle.lara_syntax.proofs.Turns.{TakesOne, read_of, pair_is, value_is, rest_is, err_ok, none_some, list_step}
 use Rattle.lara_syntax.proofs.Readers.{bind_ok}
-use Rattle.lara_syntax.specs.WordTexts.{same_sign}
+use Rattle.lara_syntax.specs.FixedWords.{same_sign}
 use Rattle.lara_syntax.proofs.WordTextLaws.{same_sign-is}
 
 -- ---- how a read ends

@@ -3,7 +3,7 @@ use Rattle.std.proofs.Common.{◌≡◌, ℕ, ◌+◌, ◌≤◌, ◌<◌, ◌*�
 use Rattle.lara_data.specs.declared.refusal.Kind.{Kind}
 use Rattle.lara_data.specs.declared.refusal.Kind.TheVariants.{BadText}
 use Rattle.lara_syntax.specs.ScanSteps.{Bytes, Scan, gather, gather_within, gather_by}
-use Rattle.lara_syntax.specs.TokenTexts.{hex_value, two_digits, hex_byte, escape, content_byte, content}
+use Rattle.lara_syntax.specs.TextContents.{hex_value, two_digits, hex_byte, escape, content_byte, content}
 use Rattle.lara_syntax.specs.TokenWords.{text_by, text_word}
 use Rattle.lara_syntax.proofs.Listed.{gathered}
 use Rattle.lara_syntax.proofs.Gather.{gather-some, gather-fail, TakesOne, scan_of, rest_is, err_ok}

@@ -13,10 +13,10 @@ use Rattle.lara_semiring.specs.declared.value.ValType.TheVariants as val_type_of
 use Rattle.lara_syntax.specs.declared.ast.AstValue.TheVariants as val
 use Rattle.lara_syntax.specs.declared.item.Keyword.{Keyword}
 use Rattle.lara_syntax.specs.Scripts.{IsSpelled}
-use Rattle.lara_syntax.specs.WordTexts.{keyword_text, sign_text}
+use Rattle.lara_syntax.specs.FixedWords.{keyword_text, sign_text}
 use Rattle.lara_syntax.specs.Steps.{Items, Read, Reader, ◌>>=◌, give, refuse, peek, skip, items_from, head_word}
 use Rattle.lara_syntax.specs.Reading as r
-use Rattle.lara_syntax.specs.WordTexts.{same_sign}
+use Rattle.lara_syntax.specs.FixedWords.{same_sign}
 use Rattle.lara_syntax.specs.Reading.{sign, sign_by}
 use Rattle.lara_syntax.specs.Grammar.{Word, word}
 use Rattle.lara_syntax.proofs.Turns.{read_of, erred, value_is, err_ok}

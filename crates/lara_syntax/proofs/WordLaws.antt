@@ -14,8 +14,8 @@ use Rattle.lara_syntax.specs.declared.item.Keyword.{Keyword}
 use Rattle.lara_syntax.specs.declared.item.Sign.{Sign as SignWord}
 use Rattle.lara_syntax.specs.ScanSteps.{Bytes, Scan}
 use Rattle.lara_syntax.specs.ByteClasses.{is_space, run_len, blank_in, after_blank, number_value}
-use Rattle.lara_syntax.specs.WordTexts.{keyword_of, sign_of}
-use Rattle.lara_syntax.specs.TokenTexts.{content}
+use Rattle.lara_syntax.specs.FixedWords.{keyword_of, sign_of}
+use Rattle.lara_syntax.specs.TextContents.{content}
 use Rattle.lara_syntax.specs.TokenWords.{word_at, name_word, name_by, number_word, number_by, text_word, text_by, one_sign, one_sign_by, sign_word, two_sign_by, item_here, item_by}
 use Rattle.lara_syntax.proofs.Gather.{TakesOne, scan_of, rest_is, err_ok, none_some}
 use Rattle.lara_syntax.proofs.TextLaws.{content-shorter}

@@ -11,8 +11,8 @@ use Rattle.lara_syntax.specs.declared.item.Lexeme.{Lexeme}
 use Rattle.lara_syntax.specs.declared.item.Lexeme.TheVariants as lexeme
 use Rattle.lara_syntax.specs.ScanSteps.{Bytes, Scan}
 use Rattle.lara_syntax.specs.ByteClasses.{is_space}
-use Rattle.lara_syntax.specs.WordTexts.{keyword_text, sign_text}
-use Rattle.lara_syntax.specs.TokenTexts.{content}
+use Rattle.lara_syntax.specs.FixedWords.{keyword_text, sign_text}
+use Rattle.lara_syntax.specs.TextContents.{content}
 use Rattle.lara_syntax.specs.TokenWords.{word_at, name_word, number_word, text_word, text_by, sign_word}
 use Rattle.lara_syntax.specs.Spellings.{Spells, Ends, IsText, AreDigits, Wrong, long_name, too_great, letter_behind, no_text, no_token}
 use Rattle.lara_syntax.proofs.Blanks.{Solid}
@@ -20,7 +20,7 @@ use Rattle.lara_syntax.proofs.Gather.{scan_of, erred, err_ok}
 use Rattle.lara_syntax.proofs.NameLaws.{NameParts, name_parts, keyword_parts, name_word-name, name_word-keyword, name_word-long, name_word-sound}
 use Rattle.lara_syntax.proofs.NumberLaws.{digit_starts, number_word-number, number_word-great, number_word-letter, number_word-sound, goes_on-parts, parts-goes_on}
 use Rattle.lara_syntax.proofs.SignLaws.{sign_word-longest, sign_word-none, none-sign_word, sign_word-sound}
-use Rattle.lara_syntax.proofs.Sounds.{Sound}
+use Rattle.lara_syntax.proofs.SoundTokens.{Sound}
 use Rattle.lara_syntax.proofs.WordTextLaws.{both, Shape, one, two, sign-shape, begins_sign}
 use Rattle.lara_syntax.proofs.WrittenLaws.{content-written, written-content}
 

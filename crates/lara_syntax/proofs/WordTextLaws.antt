@@ -11,7 +11,7 @@ use Rattle.lara_syntax.specs.declared.item.Keyword.TheVariants as key
 use Rattle.lara_syntax.specs.declared.item.Sign.{Sign}
 use Rattle.lara_syntax.specs.declared.item.Sign.TheVariants as sign
 use Rattle.lara_syntax.specs.ByteClasses.{is_space}
-use Rattle.lara_syntax.specs.WordTexts.{keyword_text, sign_text, all_keywords, all_signs, word_of, keyword_of, sign_of, same_sign}
+use Rattle.lara_syntax.specs.FixedWords.{keyword_text, sign_text, all_keywords, all_signs, word_of, keyword_of, sign_of, same_sign}
 
 pub both : (a b : Bool) → (a && b) ≡ true → (a ≡ true) × (b ≡ true)
 both true true e = (refl, refl)

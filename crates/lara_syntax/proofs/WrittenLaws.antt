@@ -4,7 +4,7 @@ use Rattle.std.specs.Prelude.{not, ◌==◌, ◌||◌, ◌&&◌, nat_le}
 use Rattle.std.proofs.lemmas.Bool.{eqb-true, eqb-false, false_from_ne_true}
 use Rattle.lara_data.specs.declared.refusal.Kind.TheVariants.{BadText}
 use Rattle.lara_syntax.specs.ScanSteps.{Bytes, Scan}
-use Rattle.lara_syntax.specs.TokenTexts.{hex_value, two_digits, hex_byte, escape, content_byte, content}
+use Rattle.lara_syntax.specs.TextContents.{hex_value, two_digits, hex_byte, escape, content_byte, content}
 use Rattle.lara_syntax.specs.Spellings.{IsHex, IsPlain, Written, nothing, plain, quote, backslash, hexadecimal}
 use Rattle.lara_syntax.proofs.Gather.{scan_of}
 use Rattle.lara_syntax.proofs.Listed.{Listed, none, more, gathered, gather-listed}

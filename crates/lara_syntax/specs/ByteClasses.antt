@@ -10,12 +10,13 @@ abbrev pub run_len : (ℕ → Bool) → List ℕ → ℕ
 run_len p [] = 0
 run_len p (b ∷ bs) = if p b then run_len p bs + 1 else 0
 
--- the bytes behind white space and comments; a comment goes from # to the end of the line
+-- the bytes behind white space and comments, from within a comment or not; a comment goes from # to an LF or the end
 abbrev pub blank_in : Bool → List ℕ → List ℕ
 blank_in comment [] = []
 blank_in true (b ∷ bs) = blank_in (not (b == 10)) bs
 blank_in false (b ∷ bs) = if b == 35 then blank_in true bs else (if is_space b then blank_in false bs else b ∷ bs)
 
+-- the bytes behind white space and comments
 abbrev pub after_blank : List ℕ → List ℕ
 after_blank bs = blank_in false bs
 
@@ -28,5 +29,6 @@ number_from v (b ∷ bs) = number_from (v * 10 + (b - 48)) bs
 abbrev pub within_64 : ℕ → Option ℕ
 within_64 v = if nat_lt v 18446744073709551616 then Some v else None
 
+-- the value of decimal digits, or none from 2 ^ 64 on
 abbrev pub number_value : List ℕ → Option ℕ
 number_value bs = within_64 (number_from 0 bs)

@@ -32,9 +32,11 @@ use Rattle.lara_syntax.specs.Reading.{node, first_at}
 pub data Word (w : Lexeme) : ℕ → Items → Items → Type 0 where
   word : (at len : ℕ) (rest : Items) → Word w at (record { at = at; len = len; lexeme = w } ∷ rest) rest
 
+-- the sign m, at a place
 abbrev pub Mark : Sign → ℕ → Items → Items → Type 0
 Mark m = Word (lex.Sign m)
 
+-- the keyword k, at a place
 abbrev pub Key : Keyword → ℕ → Items → Items → Type 0
 Key k = Word (lex.Key k)
 

@@ -5,8 +5,6 @@ use Rattle.lara_syntax.specs.declared.ast.AstStatement.{AstStatement}
 use Rattle.lara_syntax.specs.declared.item.Item.{Item}
 use Rattle.lara_syntax.specs.declared.fault.Stop.{Stop}
 use Rattle.lara_data.specs.declared.refusal.Refusal.{Refusal}
-use Rattle.lara_data.specs.declared.refusal.ReadFault.{ReadFault}
-use Rattle.lara_data.specs.declared.refusal.ReadFault.TheVariants.{Refused, Memory}
 use Rattle.lara_syntax.specs.Limits.{most}
 use Rattle.lara_syntax.specs.Steps.{Items, Read}
 use Rattle.lara_syntax.specs.Reading.{script}
@@ -26,6 +24,7 @@ at_or size (Some item) = item.at
 abbrev pub place_of : ℕ → Items → ℕ → ℕ
 place_of size ts left = at_or size (slice_get ts (length ts - left))
 
+-- the refusal of a stop, at the place of its word or at the end
 abbrev pub refusal_of : ℕ → Items → Stop → Refusal
 refusal_of size ts stop = record { at = place_of size ts stop.left; kind = stop.kind }
 
@@ -35,6 +34,7 @@ at_end_of (suc left) token refusal = refusal
 at_end_of zero (Some token) refusal = token
 at_end_of zero None refusal = refusal
 
+-- the tree of the statements, or the refusal of what is no token behind them
 abbrev pub accepted : Option Refusal → List AstStatement → Result Ast Refusal
 accepted (Some token) xs = Err token
 accepted None xs = Ok (record { statements = xs })
@@ -47,12 +47,3 @@ answered size ts token (Err stop) = Err (at_end_of stop.left token (refusal_of s
 -- the tree of a script, or its first refusal
 unfoldable pub parsed : List ℕ → Result Ast Refusal
 parsed bytes = answered (length bytes) (items_of bytes) (stop_of bytes) (read_value (script most (items_of bytes)))
-
-abbrev pub FaultGives : ReadFault → Result Ast Refusal → Type 0
-FaultGives (Refused refusal) read = read ≡ Err refusal
-FaultGives Memory read = Unit {0}
-
--- what was returned is what the bytes stand for, unless memory ran out
-abbrev pub ParseGives : Result Ast ReadFault → Result Ast Refusal → Type 0
-ParseGives (Ok ast) read = read ≡ Ok ast
-ParseGives (Err fault) read = FaultGives fault read

@@ -24,60 +24,68 @@ use Rattle.lara_syntax.specs.declared.ast.AstOp.{AstOp}
 use Rattle.lara_syntax.specs.declared.ast.AstOp.TheVariants as op
 use Rattle.lara_syntax.specs.declared.ast.AstStatement.{AstStatement}
 use Rattle.lara_syntax.specs.declared.ast.AstStatement.TheVariants as st
-use Rattle.lara_syntax.specs.WordTexts.{same_sign}
+use Rattle.lara_syntax.specs.FixedWords.{same_sign}
 use Rattle.lara_syntax.specs.Limits.{Limits}
 use Rattle.lara_syntax.specs.Steps.{Reader, ◌>>=◌, give, refuse, peek, skip, items_from, list_from}
 
 -- ---- one word
 
+-- a sign, by the word that is next
 abbrev pub sign_by : Sign → Option Lexeme → Reader ℕ
 sign_by m (Some (lex.Sign k)) = if same_sign m k then skip else refuse Unexpected
 sign_by m w = refuse Unexpected
 
+-- the sign m, which gives its place
 unfoldable pub sign : Sign → Reader ℕ
 sign m = peek >>= sign_by m
 
+-- NAME, by the word that is next
 abbrev pub name_by : Option Lexeme → Reader AstName
 name_by (Some (lex.Name n)) = do
   at ← skip
   give (record { name = n; at = at })
 name_by w = refuse Unexpected
 
+-- NAME, with its place
 unfoldable pub name : Reader AstName
 name = peek >>= name_by
 
--- the type of a key column
+-- the type of a key column, by the word that is next
 abbrev pub key_type_by : Option Lexeme → Reader KeyType
 key_type_by (Some (lex.Key key.Nat)) = do
   at ← skip
   give key_type_of.Nat
 key_type_by w = refuse Unexpected
 
+-- the type of a key column: "nat"
 unfoldable pub key_type : Reader KeyType
 key_type = peek >>= key_type_by
 
--- the type of a value column
+-- the type of a value column, by the word that is next
 abbrev pub val_type_by : Option Lexeme → Reader ValType
 val_type_by (Some (lex.Key key.Count)) = do
   at ← skip
   give val_type_of.Count
 val_type_by w = refuse Unexpected
 
+-- the type of a value column: "count"
 unfoldable pub val_type : Reader ValType
 val_type = peek >>= val_type_by
 
--- lit = NUMBER
+-- lit, by the word that is next
 abbrev pub lit_by : Option Lexeme → Reader AstLit
 lit_by (Some (lex.Number n)) = do
   at ← skip
   give (record { at = at; value = val.Number n })
 lit_by w = refuse Unexpected
 
+-- lit = NUMBER
 unfoldable pub lit : Reader AstLit
 lit = peek >>= lit_by
 
 -- ---- lists
 
+-- [ "," X ], by the word that is next
 abbrev pub comma_by : {A : Type 0} → Reader A → Option Lexeme → Reader (Option A)
 comma_by p (Some (lex.Sign Comma)) = do
   at ← skip
@@ -95,13 +103,14 @@ comma_then p = peek >>= comma_by p
 unfoldable pub comma_name : Reader (Option AstName)
 comma_name = comma_then name
 
--- [ names ]
+-- [ names ], by the word that is next
 abbrev pub some_names_by : Option Lexeme → Reader (List AstName)
 some_names_by (Some (lex.Name n)) = do
   x ← name
   items_from comma_name (x ∷ [])
 some_names_by w = give []
 
+-- [ names ]
 unfoldable pub some_names : Reader (List AstName)
 some_names = peek >>= some_names_by
 
@@ -119,13 +128,14 @@ key_col = do
 unfoldable pub comma_key_col : Reader (Option AstKeyCol)
 comma_key_col = comma_then key_col
 
--- [ key_col { "," key_col } ]
+-- [ key_col { "," key_col } ], by the word that is next
 abbrev pub some_key_cols_by : Option Lexeme → Reader (List AstKeyCol)
 some_key_cols_by (Some (lex.Name n)) = do
   x ← key_col
   items_from comma_key_col (x ∷ [])
 some_key_cols_by w = give []
 
+-- [ key_col { "," key_col } ]
 unfoldable pub some_key_cols : Reader (List AstKeyCol)
 some_key_cols = peek >>= some_key_cols_by
 
@@ -147,6 +157,7 @@ val_cols = do
   x ← val_col
   items_from comma_val_col (x ∷ [])
 
+-- type = "[" [ key_col { "," key_col } ] ":" val_col { "," val_col } "]"
 unfoldable pub table_type : Reader AstColumns
 table_type = do
   at ← sign OpenBracket
@@ -168,11 +179,12 @@ lits = do
   x ← lit
   items_from comma_lit (x ∷ [])
 
--- [ lit { "," lit } ]
+-- [ lit { "," lit } ], by the word that is next
 abbrev pub some_lits_by : Option Lexeme → Reader (List AstLit)
 some_lits_by (Some (lex.Number n)) = lits
 some_lits_by w = give []
 
+-- [ lit { "," lit } ]
 unfoldable pub some_lits : Reader (List AstLit)
 some_lits = peek >>= some_lits_by
 
@@ -181,6 +193,7 @@ abbrev pub first_at : List AstLit → ℕ → ℕ
 first_at [] at = at
 first_at (x ∷ xs) at = x.at
 
+-- entry = [ lit { "," lit } ] ":" lit { "," lit }, at its first word
 unfoldable pub entry : Reader AstEntry
 entry = do
   keys ← some_lits
@@ -190,7 +203,7 @@ entry = do
 
 -- ---- [ entries ], entries = entry { ";" entry } [ ";" ]
 
--- [ entry ]
+-- [ entry ], by the word that is next
 abbrev pub entry_here_by : Option Lexeme → Reader (Option AstEntry)
 entry_here_by (Some (lex.Number n)) = do
   x ← entry
@@ -200,31 +213,37 @@ entry_here_by (Some (lex.Sign Colon)) = do
   give (Some x)
 entry_here_by w = give None
 
+-- [ entry ]
 unfoldable pub entry_here : Reader (Option AstEntry)
 entry_here = peek >>= entry_here_by
 
--- [ ";" [ entry ] ]
+-- [ ";" [ entry ] ], by the word that is next
 abbrev pub semi_entry_by : Option Lexeme → Reader (Option AstEntry)
 semi_entry_by (Some (lex.Sign Semi)) = do
   at ← skip
   entry_here
 semi_entry_by w = give None
 
+-- [ ";" [ entry ] ]
 unfoldable pub semi_entry : Reader (Option AstEntry)
 semi_entry = peek >>= semi_entry_by
 
+-- the entries that begin with this one, or none without one
 abbrev pub entries_from : Option AstEntry → Reader (List AstEntry)
 entries_from None = give []
 entries_from (Some x) = items_from semi_entry (x ∷ [])
 
+-- [ entries ]
 unfoldable pub some_entries : Reader (List AstEntry)
 some_entries = entry_here >>= entries_from
 
 -- ---- a table that stands on no other: leaf = NAME | "load" NAME | "table" type "{" [ entries ] "}"
 
+-- what makes a table, at its place
 abbrev pub node : ℕ → AstOp → AstNode
 node at what = record { at = at; op = what }
 
+-- leaf, by the word that is next
 abbrev pub leaf_by : Option Lexeme → Reader AstNode
 leaf_by (Some (lex.Name n)) = do
   x ← name
@@ -242,6 +261,7 @@ leaf_by (Some (lex.Key key.Table)) = do
   give (node at (op.Literal ty es))
 leaf_by w = refuse Unexpected
 
+-- leaf = NAME | "load" NAME | "table" type "{" [ entries ] "}"
 unfoldable pub leaf : Reader AstNode
 leaf = peek >>= leaf_by
 
@@ -251,17 +271,20 @@ leaf = peek >>= leaf_by
 abbrev pub Counted : Type 0
 Counted = AstNode × ℕ
 
+-- operand, by the word that is next
 abbrev pub operand_by : (ℕ → Reader Counted) → ℕ → Option Lexeme → Reader Counted
 operand_by inside taken (Some (lex.Sign Open)) = inside taken
 operand_by inside taken w = do
   x ← leaf
   give (x, taken)
 
+-- operand = leaf | "(" table ")", where inside reads the second form and taken operator words stand before
 abbrev pub operand_with : (ℕ → Reader Counted) → ℕ → Reader Counted
 operand_with inside taken = peek >>= operand_by inside taken
 
 -- ---- table = "join" operand operand | "union" operand operand | "agg" operand "by" [ names ] | operand
 
+-- "by", by the word that is next
 abbrev pub by_word_by : Option Lexeme → Reader ℕ
 by_word_by (Some (lex.Key key.By)) = skip
 by_word_by w = refuse Unexpected
@@ -281,9 +304,11 @@ two_by what operand taken at = do
   b ← operand a.1
   give (node at (what a.0 b.0), b.1)
 
+-- "join" operand operand, where at most limit operator words are taken
 abbrev pub join_with : ℕ → (ℕ → Reader Counted) → ℕ → Reader Counted
 join_with limit operand taken = operator_word limit taken >>= two_by op.Join operand taken
 
+-- "union" operand operand, likewise
 abbrev pub union_with : ℕ → (ℕ → Reader Counted) → ℕ → Reader Counted
 union_with limit operand taken = operator_word limit taken >>= two_by op.Union operand taken
 
@@ -295,15 +320,18 @@ agg_by operand taken at = do
   ns ← some_names
   give (node at (op.Agg a.0 ns), a.1)
 
+-- "agg" operand "by" [ names ], likewise
 abbrev pub agg_with : ℕ → (ℕ → Reader Counted) → ℕ → Reader Counted
 agg_with limit operand taken = operator_word limit taken >>= agg_by operand taken
 
+-- table, by the word that is next
 abbrev pub table_by : ℕ → (ℕ → Reader Counted) → ℕ → Option Lexeme → Reader Counted
 table_by limit operand taken (Some (lex.Key key.Join)) = join_with limit operand taken
 table_by limit operand taken (Some (lex.Key key.Union)) = union_with limit operand taken
 table_by limit operand taken (Some (lex.Key key.Agg)) = agg_with limit operand taken
 table_by limit operand taken w = operand taken
 
+-- table = "join" operand operand | "union" operand operand | "agg" operand "by" [ names ] | operand
 abbrev pub table_with : ℕ → (ℕ → Reader Counted) → ℕ → Reader Counted
 table_with limit operand taken = peek >>= table_by limit operand taken
 
@@ -316,7 +344,8 @@ inside limit (suc levels) taken = do
   end ← sign Close
   give x
 
--- An operand: so many operator words a statement may have, so many levels of ( may still be opened, so many operator words stand before it.
+-- An operand. A statement may have limit operator words, and so many levels of ( may still be opened; taken operator
+-- words stand before it.
 unfoldable pub operand : ℕ → ℕ → ℕ → Reader Counted
 operand limit levels taken = operand_with (inside limit levels) taken
 
@@ -326,6 +355,7 @@ table limit levels taken = table_with limit (operand limit levels) taken
 
 -- ---- statement = NAME "=" table ";" | "print" NAME [ "by" [ names ] ] ";"
 
+-- [ "by" [ names ] ], by the word that is next
 abbrev pub some_order_by : Option Lexeme → Reader (Option AstBy)
 some_order_by (Some (lex.Key key.By)) = do
   at ← skip
@@ -337,6 +367,7 @@ some_order_by w = give None
 unfoldable pub some_order : Reader (Option AstBy)
 some_order = peek >>= some_order_by
 
+-- statement, by the word that is next
 abbrev pub statement_by : Limits → Option Lexeme → Reader AstStatement
 statement_by limits (Some (lex.Name n)) = do
   x ← name
@@ -352,6 +383,7 @@ statement_by limits (Some (lex.Key key.Print)) = do
   give (st.Print at x by)
 statement_by limits w = refuse Unexpected
 
+-- statement = NAME "=" table ";" | "print" NAME [ "by" [ names ] ] ";"
 unfoldable pub statement : Limits → Reader AstStatement
 statement limits = peek >>= statement_by limits
 
@@ -363,6 +395,7 @@ no_room (lex.Name n) = TooMany
 no_room (lex.Key key.Print) = TooMany
 no_room w = Unexpected
 
+-- the next statement, by the word that is next; none at the end
 abbrev pub next_by : Limits → Bool → Option Lexeme → Reader (Option AstStatement)
 next_by limits room None = give None
 next_by limits true (Some w) = do

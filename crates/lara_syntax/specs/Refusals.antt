@@ -11,7 +11,7 @@ use Rattle.lara_syntax.specs.Limits.{most}
 use Rattle.lara_syntax.specs.Steps.{Items}
 use Rattle.lara_syntax.specs.Grammar.{Script}
 use Rattle.lara_syntax.specs.Scripts.{SomeBegins, NoneBegins, LongBegins, NoLongBegins}
-use Rattle.lara_syntax.specs.Readings.{Reads}
+use Rattle.lara_syntax.specs.TokenReadings.{Reads}
 
 -- The kind of a word behind which no script goes on: too many, where a script goes on there with other limits.
 pub data KindOf : Kind → Items → Type 0 where
@@ -30,6 +30,7 @@ pub data Refuses (bytes : List ℕ) : Refusal → Type 0 where
   -- what is no token, behind words with which a script goes on
   at_token : (items : Items) (refusal : Refusal) → Reads (length bytes) bytes items (Some refusal) → SomeBegins items → Refuses bytes refusal
 
+-- a refusal is right in the words of the grammar; of memory nothing is said
 abbrev pub RefusesRight : List ℕ → ReadFault → Type 0
 RefusesRight bytes faults.Memory = Unit {0}
 RefusesRight bytes (faults.Refused refusal) = Refuses bytes refusal

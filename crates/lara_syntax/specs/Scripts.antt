@@ -7,7 +7,7 @@ use Rattle.lara_syntax.specs.Limits.{Limits, most}
 use Rattle.lara_syntax.specs.Steps.{Items}
 use Rattle.lara_syntax.specs.Grammar.{Script}
 use Rattle.lara_syntax.specs.Spellings.{Spells}
-use Rattle.lara_syntax.specs.Readings.{Reads}
+use Rattle.lara_syntax.specs.TokenReadings.{Reads}
 
 -- the bytes are read to their end as words to which the tree stands in the grammar
 pub record Stands (bytes : List ℕ) (ast : Ast) : Type 0 where

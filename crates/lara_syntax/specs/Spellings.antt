@@ -9,7 +9,7 @@ use Rattle.lara_syntax.specs.declared.item.Lexeme.{Lexeme}
 use Rattle.lara_syntax.specs.declared.item.Lexeme.TheVariants.{Name, Key, Number, Text, Sign}
 use Rattle.lara_syntax.specs.declared.item.Sign.{Sign as SignWord}
 use Rattle.lara_syntax.specs.ByteClasses.{is_space, number_from}
-use Rattle.lara_syntax.specs.WordTexts.{keyword_text, sign_text}
+use Rattle.lara_syntax.specs.FixedWords.{keyword_text, sign_text}
 
 -- a hexadecimal digit and its value: 0 to 9 are the bytes from 48 on, a to f those from 97 on, A to F those from 65 on
 abbrev pub IsHex : ℕ → ℕ → Type 0

@@ -8,6 +8,7 @@ use Rattle.lara_syntax.specs.declared.fault.Stop.{Stop}
 use Rattle.lara_syntax.specs.declared.fault.Fault.{Fault}
 use Rattle.lara_syntax.specs.declared.fault.Fault.TheVariants as faults
 
+-- the words that are left
 abbrev pub Items : Type 0
 Items = List Item
 
@@ -15,17 +16,21 @@ Items = List Item
 abbrev pub Read : Type 0 → Type 0
 Read A = Result (A × Items) Stop
 
+-- a step over the words
 abbrev pub Reader : Type 0 → Type 0
 Reader A = Items → Read A
 
+-- a further step on what was read, or the stop
 abbrev pub onward : {A B : Type 0} → Read A → (A → Reader B) → Read B
 onward (Ok x) f = f x.0 x.1
 onward (Err e) f = Err e
 
+-- a step, and one that goes on with its value; a stop of either is the stop of both
 infixl 10 ◌>>=◌
 abbrev pub ◌>>=◌ : {A B : Type 0} → Reader A → (A → Reader B) → Reader B
 p >>= f = λ ts. onward (p ts) f
 
+-- gives a value and takes no word
 abbrev pub give : {A : Type 0} → A → Reader A
 give x = λ ts. Ok (x, ts)
 
@@ -33,6 +38,7 @@ give x = λ ts. Ok (x, ts)
 abbrev pub refuse : {A : Type 0} → Kind → Reader A
 refuse kind = λ ts. Err (record { left = length ts; kind = kind })
 
+-- the word that is next, or none at the end
 abbrev pub head_word : Items → Option Lexeme
 head_word [] = None
 head_word (t ∷ ts) = Some t.lexeme
@@ -41,6 +47,7 @@ head_word (t ∷ ts) = Some t.lexeme
 abbrev pub peek : Reader (Option Lexeme)
 peek = λ ts. Ok (head_word ts, ts)
 
+-- the place of the first word and the words after it; at the end a stop
 abbrev pub taken : Items → Read ℕ
 taken [] = Err (record { left = 0; kind = Unexpected })
 taken (t ∷ ts) = Ok (t.at, ts)
@@ -76,6 +83,7 @@ list_from item xs = turns (λ ys. item ys >>= λ x. give (behind ys x)) xs
 abbrev pub items_from : {A : Type 0} → Reader (Option A) → List A → Reader (List A)
 items_from item xs = list_from (λ ys. item) xs
 
+-- the fault is where reading stops, unless memory ran out
 abbrev pub Fails : {Y : Type 0} → Fault → Result Y Stop → Type 0
 Fails faults.Memory read = Unit {0}
 Fails (faults.Stopped s) read = read ≡ Err s

@@ -7,9 +7,10 @@ use Rattle.lara_data.specs.declared.refusal.Refusal.{Refusal}
 use Rattle.lara_syntax.specs.declared.token.Token.{Token}
 use Rattle.lara_syntax.specs.declared.token.TokenWord.{TokenWord}
 use Rattle.lara_syntax.specs.declared.token.TokenWord.TheVariants.{Name, Keyword, Number, Text, Sign}
-use Rattle.lara_syntax.specs.Readings.{Reads}
+use Rattle.lara_syntax.specs.TokenReadings.{Reads}
 use Rattle.lara_syntax.specs.Spans.{AreInOrder, AreSlices}
 
+-- the lexeme without the name, the keyword or the sign that it is
 abbrev pub word_of : Lexeme → TokenWord
 word_of (lexeme.Name n) = Name
 word_of (lexeme.Key k) = Keyword

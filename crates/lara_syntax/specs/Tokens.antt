@@ -9,15 +9,17 @@ use Rattle.lara_syntax.specs.TokenWords.{item_here, stop_at}
 unfoldable pub scanned : Bytes → Scan (List Item)
 scanned bytes = gather (item_here (length bytes)) [] bytes
 
+-- the items that were scanned
 abbrev pub items_in : Scan (List Item) → List Item
 items_in (Ok x) = x.0
 items_in (Err kind) = []
 
+-- where they stop before the end; size is the length of the script
 abbrev pub stop_in : ℕ → Scan (List Item) → Option Refusal
 stop_in size (Ok x) = stop_at size x.1
 stop_in size (Err kind) = None
 
--- the items of a script, up to its end or to the first byte that begins no token, or a bad one
+-- the items of a script, up to its end or to the first byte that begins no token or begins a bad one
 unfoldable pub items_of : List ℕ → List Item
 items_of bytes = items_in (scanned bytes)
 

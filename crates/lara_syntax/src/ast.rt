@@ -39,7 +39,7 @@ pub enum AstStatement {
         name: AstName,
         by: Option<AstBy>,
     },
-    /// What stands under `old` is written under `new`.
+    /// What stands under `old` is stored under `new`.
     Store {
         at: u32,
         old: AstName,
@@ -47,7 +47,7 @@ pub enum AstStatement {
     },
 }
 
-/// A table; `at` is its first word.
+/// A table; `at` is its first token other than `(`.
 #[derive(Drop)]
 #[cycle(ast_node)]
 pub struct AstNode {
@@ -119,6 +119,7 @@ pub struct AstLit {
     pub value: AstValue,
 }
 
+/// The value of a literal, before its column's type is known.
 #[derive(Drop)]
 pub enum AstValue {
     Number(u64),

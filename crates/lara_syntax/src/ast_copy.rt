@@ -1,5 +1,6 @@
 //! Copies of the tree, node by node.
-ghost use Rattle.std.specs.Prelude.{◌≡◌, IfOk};
+ghost use Rattle.std.specs.Prelude.{◌≡◌, IfOk, IsOk, IsTrue};
+ghost use Rattle.lara_syntax.specs.Atoms.{is_plain_value};
 
 use crate::ast::{
     Ast, AstBy, AstEntry, AstKeyCol, AstLit, AstName, AstNode, AstOp, AstStatement, AstType,
@@ -149,7 +150,10 @@ impl Copied for AstEntry {
 }
 
 impl Copied for AstLit {
-    fn copy(&self, alloc: Global) -> Result<AstLit, AllocError> {
+    fn copy(&self, alloc: Global) -> Result<AstLit, AllocError>
+        ensures same { IfOk result (λ r. r ≡ self.now) }
+        ensures exact { IsTrue (is_plain_value self.now.value) → IsOk result }
+    {
         Ok(AstLit {
             at: self.at,
             value: self.value.copy(alloc)?,
@@ -158,7 +162,10 @@ impl Copied for AstLit {
 }
 
 impl Copied for AstValue {
-    fn copy(&self, alloc: Global) -> Result<AstValue, AllocError> {
+    fn copy(&self, alloc: Global) -> Result<AstValue, AllocError>
+        ensures same { IfOk result (λ r. r ≡ self.now) }
+        ensures exact { IsTrue (is_plain_value self.now) → IsOk result }
+    {
         match self {
             AstValue::Number(n) => Ok(AstValue::Number(*n)),
             AstValue::Text(text) => Ok(AstValue::Text(text.copy(alloc)?)),

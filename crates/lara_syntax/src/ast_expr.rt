@@ -2,7 +2,7 @@
 use lara_base::{Boxed, Content, Name};
 use lara_data::{FunOp, TwoOp};
 
-/// An expression; `at` is its operator, or its first word where it has none.
+/// An expression; `at` is its operator, or its first token other than `(` where it has none.
 #[derive(Drop)]
 #[cycle(ast_expr)]
 pub struct AstExpr {

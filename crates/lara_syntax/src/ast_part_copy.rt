@@ -1,5 +1,6 @@
 //! Copies of expressions and of what holds them.
-ghost use Rattle.std.specs.Prelude.{◌≡◌, IfOk};
+ghost use Rattle.std.specs.Prelude.{◌≡◌, IfOk, IsOk, IsTrue};
+ghost use Rattle.lara_syntax.specs.Atoms.{is_atom};
 
 use crate::ast_expr::{AstExpr, AstForm};
 use crate::ast_part::{AstArg, AstCall, AstDef, AstKeyDef, AstPair};
@@ -18,7 +19,10 @@ impl Copied for AstExpr {
 
 impl Copied for AstForm {
     #[cycle(copy_expr)]
-    fn copy(&self, alloc: Global) -> Result<AstForm, AllocError> {
+    fn copy(&self, alloc: Global) -> Result<AstForm, AllocError>
+        ensures same { IfOk result (λ r. r ≡ self.now) }
+        ensures exact { IsTrue (is_atom self.now) → IsOk result }
+    {
         match self {
             AstForm::Column(name) => Ok(AstForm::Column(name.copy(alloc)?)),
             AstForm::Number(n) => Ok(AstForm::Number(*n)),

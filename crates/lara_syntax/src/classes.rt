@@ -2,24 +2,10 @@
 ghost use Rattle.std.specs.Prelude.{◌≡◌, ◌+◌, ◌≤◌, ◌<◌, ◌-◌, ◌*◌, ◌∷◌, [], length, IfSome, MatchOption, true};
 ghost use Rattle.std.specs.Char.{is_ascii_digit};
 ghost use Rattle.std.specs.List.{list_all};
-ghost use Rattle.lara_base.specs.Names.{starts_name, goes_on};
+ghost use Rattle.lara_base.specs.Names.{goes_on};
 ghost use Rattle.lara_syntax.specs.ByteClasses.{is_space, run_len, after_blank, number_value, within_64};
 
-// Whether a name begins with the byte.
-#[tactic(auto, unfolding(lara_base::specs::Names::starts_name))]
-pub fn starts_name(b: u8) -> bool
-    ensures { result ≡ starts_name b }
-{
-    b.is_ascii_alphabetic() || b == b'_'
-}
-
-// Whether a name goes on with the byte.
-#[tactic(auto, unfolding(lara_base::specs::Names::goes_on))]
-fn goes_on(b: u8) -> bool
-    ensures { result ≡ goes_on b }
-{
-    b.is_ascii_alphanumeric() || b == b'_'
-}
+use lara_base::goes_on;
 
 fn is_space(b: u8) -> bool
     ensures { result ≡ is_space b }
@@ -27,7 +13,7 @@ fn is_space(b: u8) -> bool
     b == b' ' || b == b'\t' || b == b'\r' || b == b'\n'
 }
 
-// How many bytes of a name stand in front.
+/// How many bytes of a name stand in front.
 pub fn name_len(bytes: &[u8]) -> usize
     ensures value { result ≡ run_len goes_on bytes.now }
     ensures within { result ≤ length bytes.now }
@@ -44,7 +30,7 @@ pub fn name_len(bytes: &[u8]) -> usize
     len
 }
 
-// How many digits stand in front.
+/// How many digits stand in front.
 pub fn digits_len(bytes: &[u8]) -> usize
     ensures value { result ≡ run_len is_ascii_digit bytes.now }
     ensures within { result ≤ length bytes.now }
@@ -61,7 +47,7 @@ pub fn digits_len(bytes: &[u8]) -> usize
     len
 }
 
-// The bytes behind white space and comments. A comment ends at an LF alone.
+/// The bytes behind white space and comments. A comment ends at an LF alone.
 pub fn after_blank(bytes: &[u8]) -> &[u8]
     ensures value { result.now ≡ after_blank bytes.now }
     ensures within { length result.now ≤ length bytes.now }
@@ -81,7 +67,7 @@ pub fn after_blank(bytes: &[u8]) -> &[u8]
     rest
 }
 
-// The next byte, and those after it.
+/// The next byte, and those after it.
 pub fn next(bytes: &[u8]) -> Option<(u8, &[u8])>
     ensures { MatchOption result (bytes.now ≡ []) (λ x. bytes.now ≡ x.0 ∷ x.1.now) }
 {
@@ -104,7 +90,7 @@ fn with_digit(value: u64, b: u8) -> Option<u64>
     Some(value * 10 + digit)
 }
 
-// The value of digits, or None where it is past the greatest.
+/// The value of decimal digits, or None where it is past 2^64 - 1.
 #[tactic(auto, using(crate::proofs::Numbers::number_laws))]
 pub fn number_value(digits: &[u8]) -> Option<u64>
     requires { list_all is_ascii_digit digits.now ≡ true }

@@ -3,7 +3,7 @@ ghost use Rattle.std.specs.Prelude.{◌≡◌};
 ghost use Rattle.lara_syntax.specs.declared.fault.Fault.TheVariants.{Memory, Stopped};
 
 use lara_data::Kind;
-use std::alloc::{AllocError, AllocFailed};
+use std::alloc::AllocError;
 
 /// A word that cannot stand where it does, by how many words are left from it on. 0 is the end of the script.
 #[derive(Clone, Copy)]
@@ -12,6 +12,7 @@ pub struct Stop {
     pub kind: Kind,
 }
 
+/// Why a rule gives nothing: memory was refused, or a word cannot stand where it does.
 #[derive(Drop)]
 pub enum Fault {
     Memory,
@@ -30,14 +31,6 @@ impl From<AllocError> for Fault {
     ghost from_gives = { λ _ e. e ≡ Memory };
 
     fn from(_e: AllocError) -> Fault {
-        Fault::Memory
-    }
-}
-
-impl<T: Drop> From<AllocFailed<T>> for Fault {
-    ghost from_gives = { λ _ e. e ≡ Memory };
-
-    fn from(_e: AllocFailed<T>) -> Fault {
         Fault::Memory
     }
 }

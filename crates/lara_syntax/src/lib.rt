@@ -8,6 +8,7 @@ mod ast_part;
 mod ast_part_copy;
 mod classes;
 mod fault;
+mod fixed_words;
 mod item;
 mod parsing;
 mod rules;
@@ -15,9 +16,8 @@ mod scan;
 mod scan_fault;
 mod scan_word;
 mod steps;
-mod text_word;
+mod text_content;
 mod token;
-mod word_text;
 
 pub use ast::{
     Ast, AstBy, AstEntry, AstKeyCol, AstLit, AstName, AstNode, AstOp, AstStatement, AstType,
@@ -29,6 +29,8 @@ pub use lara_data::{FunOp, KeyCol, Kind, ReadFault, Refusal, TableType, TwoOp, V
 pub use parsing::parse;
 pub use token::{Token, TokenList, TokenWord, tokens};
 
+#[cfg(test)]
+mod tests_copies;
 #[cfg(test)]
 mod tests_grammar;
 #[cfg(test)]

@@ -2,7 +2,8 @@
 ghost use Rattle.std.specs.Prelude.{◌≡◌, ◌≤◌, ◌-◌, length, Ok, IfOk, IfErr};
 ghost use Rattle.lara_syntax.specs.declared.ast.Ast.{Ast};
 ghost use Rattle.lara_data.specs.declared.refusal.Refusal.{Refusal};
-ghost use Rattle.lara_syntax.specs.Parsed.{ParseGives, FaultGives, parsed, answered, place_of, refusal_of, at_end_of, read_value};
+ghost use Rattle.lara_data.specs.Judgements.{Judges, FaultJudges};
+ghost use Rattle.lara_syntax.specs.Parsed.{parsed, answered, place_of, refusal_of, at_end_of, read_value};
 ghost use Rattle.lara_syntax.specs.Limits.{most};
 ghost use Rattle.lara_syntax.specs.Reading.{script};
 ghost use Rattle.lara_syntax.specs.Refusals.{Refuses, RefusesRight};
@@ -56,7 +57,7 @@ fn answer(
     items: &[Item],
     token: Option<Refusal>,
 ) -> Result<Ast, ReadFault>
-    ensures { ParseGives result (answered size items.now token (read_value (script most items.now))) }
+    ensures { Judges (λ ast. ast) (answered size items.now token (read_value (script most items.now))) result }
 {
     match script(alloc, items) {
         Ok(statements) => match token {
@@ -75,7 +76,7 @@ fn answer(
 #[tactic(auto, unfolding(crate::specs::Parsed::parsed))]
 fn read_script(alloc: Global, bytes: &[u8]) -> Result<Ast, ReadFault>
     requires { length bytes.now ≤ 1048576 }
-    ensures { ParseGives result (parsed bytes.now) }
+    ensures { Judges (λ ast. ast) (parsed bytes.now) result }
 {
     let ItemList { list, stopped } = read_items(alloc, bytes)?;
     answer(alloc, bytes.len() as u32, list.as_slice(), stopped)
@@ -90,13 +91,13 @@ pub fn parse(alloc: Global, bytes: &[u8]) -> Result<Ast, ReadFault>
     // The tree stands in the grammar to the bytes.
     ensures found { IfOk result (λ ast. Stands bytes.now ast) }
     // What stands in it is answered, unless memory runs out.
-    ensures only { (ast : Ast) → Stands bytes.now ast → ParseGives result (Ok ast) }
+    ensures only { (ast : Ast) → Stands bytes.now ast → Judges (λ ast. ast) (Ok ast) result }
     // No script goes on with the refused word, one goes on before it, and the kind is right.
     ensures refused { IfErr result (λ e. RefusesRight bytes.now e) }
     // There is one such refusal, and it is answered, unless memory runs out.
-    ensures only_refusal { (refusal : Refusal) → Refuses bytes.now refusal → ParseGives result (Err refusal) }
+    ensures only_refusal { (refusal : Refusal) → Refuses bytes.now refusal → Judges (λ ast. ast) (Err refusal) result }
     // Which tree and which refusal it is.
-    ensures exact { ParseGives result (parsed bytes.now) }
+    ensures exact { Judges (λ ast. ast) (parsed bytes.now) result }
 {
     read_script(alloc, bytes)
 }

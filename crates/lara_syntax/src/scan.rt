@@ -1,7 +1,7 @@
 //! All tokens of a script, as items.
 ghost use Rattle.std.specs.Prelude.{◌≡◌, ◌≤◌, length, IfOk};
-ghost use Rattle.lara_syntax.specs.Readings.{Reads, IsOnlyReading};
-ghost use Rattle.lara_syntax.specs.ScannedSteps.{GivesStep};
+ghost use Rattle.lara_syntax.specs.TokenReadings.{Reads, IsOnlyReading};
+ghost use Rattle.lara_syntax.specs.TokenWords.{GivesStep};
 ghost use Rattle.lara_syntax.specs.Spans.{LiesFrom, AreInOrder, AreSlices};
 ghost use Rattle.lara_syntax.specs.Tokens.{items_of, stop_of};
 
@@ -13,7 +13,7 @@ use lara_base::List;
 use lara_data::Refusal;
 use std::alloc::{AllocError, Global};
 
-/// The words of a script, up to its end or to the first byte that begins no token, or a bad one.
+/// The words of a script, up to its end or to the first byte that begins no token or begins a bad one.
 #[derive(Drop)]
 pub struct ItemList {
     pub list: List<Item>,

@@ -3,8 +3,9 @@ ghost use Rattle.std.specs.Prelude.{◌≡◌};
 ghost use Rattle.lara_syntax.specs.declared.scan_fault.ScanFault.TheVariants.{Memory, Bad};
 
 use lara_data::Kind;
-use std::alloc::{AllocError, AllocFailed};
+use std::alloc::AllocError;
 
+/// Memory was refused, or the bytes in front are refused with this kind.
 #[derive(Drop)]
 pub enum ScanFault {
     Memory,
@@ -23,14 +24,6 @@ impl From<AllocError> for ScanFault {
     ghost from_gives = { λ _ e. e ≡ Memory };
 
     fn from(_e: AllocError) -> ScanFault {
-        ScanFault::Memory
-    }
-}
-
-impl<T: Drop> From<AllocFailed<T>> for ScanFault {
-    ghost from_gives = { λ _ e. e ≡ Memory };
-
-    fn from(_e: AllocFailed<T>) -> ScanFault {
         ScanFault::Memory
     }
 }

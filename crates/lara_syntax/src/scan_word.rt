@@ -6,12 +6,12 @@ ghost use Rattle.lara_syntax.specs.Returns.{Returns};
 ghost use Rattle.lara_syntax.specs.ScanSteps.{Gives};
 ghost use Rattle.lara_syntax.specs.TokenWords.{name_word, number_word, text_word, one_sign, sign_word, word_at};
 
-use crate::classes::{digits_len, name_len, next, number_value, starts_name};
+use crate::classes::{digits_len, name_len, next, number_value};
+use crate::fixed_words::{keyword_of, sign_of};
 use crate::item::Lexeme;
 use crate::scan_fault::ScanFault;
-use crate::text_word::content;
-use crate::word_text::{keyword_of, sign_of};
-use lara_base::{Content, List, Name};
+use crate::text_content::content;
+use lara_base::{Content, List, Name, starts_name};
 use lara_data::Kind;
 use std::alloc::Global;
 
@@ -100,7 +100,7 @@ fn sign_word(bytes: &[u8]) -> Result<(Lexeme, &[u8]), Kind>
     }
 }
 
-// The token in front, and the bytes behind it.
+/// The token in front, and the bytes behind it.
 #[tactic(auto, unfolding(crate::specs::TokenWords::word_at))]
 pub fn word_at(alloc: Global, bytes: &[u8]) -> Result<(Lexeme, &[u8]), ScanFault>
     ensures { Gives (λ x. (x.0, x.1.now)) result (word_at bytes.now) }

@@ -11,7 +11,7 @@ use lara_base::Copied;
 use lara_data::Kind;
 use std::alloc::Global;
 
-// The next word, and those after it.
+/// The next word, and those after it.
 pub fn next(items: &[Item]) -> Option<(&Item, &[Item])>
     ensures { MatchOption result (items.now ≡ []) (λ x. items.now ≡ x.0.now ∷ x.1.now) }
 {
@@ -21,7 +21,7 @@ pub fn next(items: &[Item]) -> Option<(&Item, &[Item])>
     }
 }
 
-// Stops at the next word.
+/// Stops at the next word.
 pub fn stopped(items: &[Item], kind: Kind) -> Stop
     ensures { result ≡ record { left = length items.now; kind = kind } }
 {
@@ -31,7 +31,7 @@ pub fn stopped(items: &[Item], kind: Kind) -> Stop
     }
 }
 
-// A sign, at its place.
+/// A sign, at its place.
 #[tactic(auto, unfolding(crate::specs::Reading::sign))]
 pub fn sign(items: &[Item], wanted: Sign) -> Result<(u32, &[Item]), Stop>
     ensures { Returns (λ x. (x.0, x.1.now)) result (sign wanted items.now) }
@@ -51,7 +51,7 @@ pub fn sign(items: &[Item], wanted: Sign) -> Result<(u32, &[Item]), Stop>
     }
 }
 
-// A name.
+/// A name.
 #[tactic(auto, unfolding(crate::specs::Reading::name))]
 pub fn name(alloc: Global, items: &[Item]) -> Result<(AstName, &[Item]), Fault>
     ensures { Gives (λ x. (x.0, x.1.now)) result (name items.now) }

@@ -5,7 +5,7 @@ use crate::token::{Token, TokenWord, tokens};
 use std::alloc::{AllocError, Global};
 
 // Each script with its tokens: place + length and kind, and where they stop.
-const CASES: [(&[u8], &str); 17] = [
+const CASES: [(&[u8], &str); 19] = [
     (b"", ""),
     (b"a = 1;", "0+1 name, 2+1 sign, 4+1 number 1, 5+1 sign, "),
     (b" # x\r y\n\tb#", "9+1 name, "),
@@ -13,6 +13,11 @@ const CASES: [(&[u8], &str); 17] = [
     (
         b"<=<+++!=",
         "0+2 sign, 2+1 sign, 3+2 sign, 5+1 sign, 6+2 sign, ",
+    ),
+    (b"*>>=>", "0+1 sign, 1+1 sign, 2+2 sign, 4+1 sign, "),
+    (
+        b"agg and apply as by count dist else false filter flag if inf join last len load map maxmin minplus nat none not num or path print promote rename repeat store table text then to true union where with",
+        "0+3 keyword, 4+3 keyword, 8+5 keyword, 14+2 keyword, 17+2 keyword, 20+5 keyword, 26+4 keyword, 31+4 keyword, 36+5 keyword, 42+6 keyword, 49+4 keyword, 54+2 keyword, 57+3 keyword, 61+4 keyword, 66+4 keyword, 71+3 keyword, 75+4 keyword, 80+3 keyword, 84+6 keyword, 91+7 keyword, 99+3 keyword, 103+4 keyword, 108+3 keyword, 112+3 keyword, 116+2 keyword, 119+4 keyword, 124+5 keyword, 130+7 keyword, 138+6 keyword, 145+6 keyword, 152+5 keyword, 158+5 keyword, 164+4 keyword, 169+4 keyword, 174+2 keyword, 177+4 keyword, 182+5 keyword, 188+5 keyword, 194+4 keyword, ",
     ),
     (b"007:08", "0+3 number 7, 3+1 sign, 4+2 number 8, "),
     (
@@ -73,7 +78,7 @@ fn shown(alloc: Global, script: &[u8]) -> Result<String, AllocError>
 }
 
 #[test]
-fn small_scripts(rt: HostRuntime) -> Result<(), AllocError> {
+fn tokens_have_their_places(rt: HostRuntime) -> Result<(), AllocError> {
     for (script, want) in CASES {
         if script.len() <= 1048576 {
             let got = shown(rt.alloc(), script)?;

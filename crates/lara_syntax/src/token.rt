@@ -1,5 +1,6 @@
 //! The tokens of a script, for those who show scripts.
-ghost use Rattle.std.specs.Prelude.{◌≡◌, ◌≤◌, length, map, IfOk};
+ghost use Rattle.std.specs.Prelude.{◌≡◌, ◌≤◌, length, map, IfOk, IsOk, IsTrue};
+ghost use Rattle.lara_syntax.specs.Atoms.{is_plain_word};
 ghost use Rattle.lara_syntax.specs.Tokens.{items_of, stop_of};
 ghost use Rattle.lara_syntax.specs.TokenLists.{token_of, Show, ShowAll};
 
@@ -35,8 +36,8 @@ pub struct Token {
     pub word: TokenWord,
 }
 
-/// The tokens of a script, in order. `stopped` is the first byte that begins no token, or a bad one, and its kind;
-/// None where the tokens go to the end.
+/// The tokens of a script, in order. `stopped` is the first byte that begins no token or begins a bad one, with its
+/// kind; None where the tokens go to the end.
 #[derive(Drop)]
 pub struct TokenList {
     pub list: List<Token>,
@@ -44,7 +45,10 @@ pub struct TokenList {
 }
 
 impl Copied for TokenWord {
-    fn copy(&self, alloc: Global) -> Result<Self, AllocError> {
+    fn copy(&self, alloc: Global) -> Result<Self, AllocError>
+        ensures same { IfOk result (λ r. r ≡ self.now) }
+        ensures exact { IsTrue (is_plain_word self.now) → IsOk result }
+    {
         match self {
             TokenWord::Name => Ok(TokenWord::Name),
             TokenWord::Keyword => Ok(TokenWord::Keyword),

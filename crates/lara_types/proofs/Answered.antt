@@ -1,8 +1,8 @@
 -- Rules that answer.
 use Rattle.std.specs.Prelude.{◌≡◌, Result, Ok, Err}
 use Rattle.std.proofs.Common.{refl}
-use Rattle.lara_types.specs.Judgements.{Judged}
-use Rattle.lara_types.specs.Steps.{◌>>=◌}
+use Rattle.lara_data.specs.Judgements.{Judged}
+use Rattle.lara_base.specs.Results.{◌>>=◌}
 
 -- the rules answer this
 abbrev pub answered : {A : Type 0} → A → Judged A

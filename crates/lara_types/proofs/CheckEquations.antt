@@ -15,9 +15,9 @@ use Rattle.lara_syntax.specs.declared.ast_part.AstDef.{AstDef}
 use Rattle.lara_syntax.specs.declared.ast_part.AstKeyDef.{AstKeyDef}
 use Rattle.lara_syntax.specs.declared.ast_part.AstPair.{AstPair}
 use Rattle.lara_types.specs.CheckedTrees.{plain, loaded, assigned, placed, placed_agg, literal_node, checked_op}
-use Rattle.lara_types.specs.Judgements.{refused}
+use Rattle.lara_data.specs.Judgements.{refused}
 use Rattle.lara_types.specs.Sizes.{written_nodes}
-use Rattle.lara_types.specs.Steps.{◌>>=◌}
+use Rattle.lara_base.specs.Results.{◌>>=◌}
 
 module _ (stored known : List Schema) (at : ℕ) where
   pub checked_Load : (n : AstName) → checked_op stored known at (Load n) ≡ loaded stored n

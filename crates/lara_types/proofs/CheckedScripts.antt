@@ -8,8 +8,8 @@ use Rattle.lara_data.specs.TypedScripts.{known_after}
 use Rattle.lara_syntax.specs.declared.ast.Ast.{Ast}
 use Rattle.lara_syntax.specs.declared.ast.AstStatement.{AstStatement}
 use Rattle.lara_types.specs.Checks.{checked_statement, at_start, one_more, checked}
-use Rattle.lara_types.specs.Steps.{walk}
-use Rattle.lara_types.proofs.Walks.{walk-none, walk-more, walk-stops}
+use Rattle.lara_types.specs.Walks.{walk}
+use Rattle.lara_types.proofs.WalkFacts.{walk-none, walk-more, walk-stops}
 
 module _ (stored : List Schema) where
   pub checked_none : (known : List Schema) (ss : List Statement) → known ≡ [] → ss ≡ [] → walk (one_more stored) at_start [] ≡ Ok (record { known = known; statements = ss })

@@ -7,7 +7,7 @@ use Rattle.lara_data.specs.declared.refusal.Refusal.{Refusal}
 use Rattle.lara_data.specs.declared.refusal.ReadFault.{ReadFault}
 use Rattle.lara_data.specs.TableTypes.{Columns, types}
 use Rattle.lara_data.specs.Tables.{Entry, Entries}
-use Rattle.lara_types.specs.Judgements.{Judges}
+use Rattle.lara_data.specs.Judgements.{Judges}
 use Rattle.lara_types.specs.LiteralEntries.{values_of, is_whole, entry_of, one_more_entry}
 use Rattle.lara_types.proofs.FoundLiterals.{found_values}
 use Rattle.lara_types.proofs.LiteralFacts.{vals_are}

@@ -22,7 +22,7 @@ use Rattle.lara_syntax.specs.declared.ast.AstOp.TheVariants.{Load, Named, Litera
 use Rattle.lara_syntax.specs.declared.ast.AstStatement.{AstStatement}
 use Rattle.lara_syntax.specs.declared.ast.AstStatement.TheVariants as ast
 use Rattle.lara_types.specs.CheckedTrees.{plain}
-use Rattle.lara_types.specs.HasTypes.{OpHas, StatementHas, AllHave, HasTypes}
+use Rattle.lara_types.specs.HasTypes.{OpHas, StatementHas, StatementsHave, HasTypes}
 
 -- a name of a known type has a table with these columns
 load_fits : (ty : Columns) (found : Option Columns) (table : Option Table) → found ≡ Some ty → Finds found table → LoadFits table ty
@@ -59,8 +59,8 @@ module _ (stored : List Schema) (ps : Plugins) (db : Database) (of_stored : Tabl
   statement_fits known (ast.Print at name by) s h = subst (StatementFits ps db) (sym h.2) tt
   statement_fits known (ast.Store at old new) s h = subst (StatementFits ps db) (sym h.1) tt
 
-  all_fit : (known : List Schema) (xs : List AstStatement) (ss : List Statement) → AllHave stored known xs ss → ScriptFits ps db ss
-  unfolding AllHave ScriptFits
+  all_fit : (known : List Schema) (xs : List AstStatement) (ss : List Statement) → StatementsHave stored known xs ss → ScriptFits ps db ss
+  unfolding StatementsHave ScriptFits
   all_fit known [] [] h = tt
   all_fit known [] (s ∷ ss) h = absurd h
   all_fit known (x ∷ xs) [] h = absurd h

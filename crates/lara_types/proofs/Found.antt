@@ -25,9 +25,10 @@ use Rattle.lara_syntax.specs.declared.ast.AstStatement.{AstStatement}
 use Rattle.lara_syntax.specs.declared.ast.AstStatement.TheVariants as ast
 use Rattle.lara_types.specs.CheckedTrees.{typed, plain, known_type, placed, placed_agg, checked_op, checked_node}
 use Rattle.lara_types.specs.Checks.{order_of, checked_statement, Progress, at_start, one_more, checked}
-use Rattle.lara_types.specs.HasTypes.{OpHas, IsOrder, StatementHas, AllHave, HasTypes}
-use Rattle.lara_types.specs.Judgements.{refused}
-use Rattle.lara_types.specs.Steps.{◌>>=◌, walk}
+use Rattle.lara_types.specs.HasTypes.{OpHas, IsOrder, StatementHas, StatementsHave, HasTypes}
+use Rattle.lara_data.specs.Judgements.{refused}
+use Rattle.lara_base.specs.Results.{◌>>=◌}
+use Rattle.lara_types.specs.Walks.{walk}
 use Rattle.lara_types.proofs.Answered.{ok_is, bind_ok_parts}
 use Rattle.lara_types.proofs.FoundLiterals.{found_literal}
 
@@ -109,14 +110,14 @@ module _ (stored : List Schema) where
       (p.0, ap (λ (q : Progress). q.known) (sym made), ap (λ (q : Progress). q.statements) (sym made), statement_found done.known x p.0 p.1)
 
   -- the statements behind those so far
-  all_found : (done last : Progress) (xs : List AstStatement) → walk (one_more stored) done xs ≡ Ok last → (ss : List Statement) × (last.statements ≡ done.statements ++ ss) × AllHave stored done.known xs ss
-  unfolding walk AllHave
+  all_found : (done last : Progress) (xs : List AstStatement) → walk (one_more stored) done xs ≡ Ok last → (ss : List Statement) × (last.statements ≡ done.statements ++ ss) × StatementsHave stored done.known xs ss
+  unfolding walk StatementsHave
   all_found done last [] e = ([], ap (λ (p : Progress). p.statements) (sym (ok_is done last e)) ∙ sym (append-nil done.statements), tt)
   all_found done last (x ∷ xs) e =
       let p = bind_ok_parts (one_more stored done x) (λ t. walk (one_more stored) t xs) last e in
       let one = one_found done p.0 x p.1 in
       let rest = all_found p.0 last xs p.2 in
-      (one.0 ∷ rest.0, behind done.statements p.0.statements last.statements rest.0 one.0 one.2 rest.1, (one.3, subst (λ known. AllHave stored known xs rest.0) one.1 rest.2))
+      (one.0 ∷ rest.0, behind done.statements p.0.statements last.statements rest.0 one.0 one.2 rest.1, (one.3, subst (λ known. StatementsHave stored known xs rest.0) one.1 rest.2))
     where
       behind : (before now all rest : List Statement) (s : Statement) → now ≡ before ++ s ∷ [] → all ≡ now ++ rest → all ≡ before ++ s ∷ rest
       behind before now all rest s e f = f ∙ ap (λ l. l ++ rest) e ∙ append_assoc before (s ∷ []) rest
@@ -127,4 +128,4 @@ unfolding checked
 checked_has stored tree ss e =
     let p = bind_ok_parts (walk (one_more stored) at_start tree.statements) (λ done. Ok done.statements) ss e in
     let q = all_found stored at_start p.0 tree.statements p.1 in
-    subst (AllHave stored [] tree.statements) (sym q.1 ∙ ok_is p.0.statements ss p.2) q.2
+    subst (StatementsHave stored [] tree.statements) (sym q.1 ∙ ok_is p.0.statements ss p.2) q.2

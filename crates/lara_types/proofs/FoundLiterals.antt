@@ -25,10 +25,11 @@ use Rattle.lara_syntax.specs.declared.ast.AstValue.{AstValue}
 use Rattle.lara_syntax.specs.declared.ast.AstValue.TheVariants.{Number}
 use Rattle.lara_types.specs.CheckedTrees.{typed, literal_node}
 use Rattle.lara_types.specs.HasTypes.{IsKey, IsVal, AreKeys, AreVals, AreEntries, columns, LiteralHas}
-use Rattle.lara_types.specs.Judgements.{Judged, refused}
-use Rattle.lara_types.specs.LiteralEntries.{other_key, other_val, key_of, val_of, keys_from, vals_from, values_of, first_place, alike, is_whole, entry_of, one_more_entry, entries_of}
+use Rattle.lara_data.specs.Judgements.{Judged, refused}
+use Rattle.lara_types.specs.LiteralEntries.{wrong_key_lit, wrong_val_lit, key_of, val_of, keys_from, vals_from, values_of, first_place, alike, is_whole, entry_of, one_more_entry, entries_of}
 use Rattle.lara_types.specs.LiteralTypes.{distinct_names, key_col, val_col, few_enough, literal_type}
-use Rattle.lara_types.specs.Steps.{◌>>=◌, walk}
+use Rattle.lara_base.specs.Results.{◌>>=◌}
+use Rattle.lara_types.specs.Walks.{walk}
 use Rattle.lara_types.proofs.Answered.{ok_is, bind_ok_parts}
 
 -- ---- values
@@ -99,8 +100,8 @@ alike_ok (Some at) r y e = cc
 found_entry : (ty : Columns) (x : AstEntry) (e : Entry) → entry_of ty x ≡ Ok e → AreKeys ty.keys x.key e.key × AreVals ty.vals x.row e.row
 unfolding entry_of
 found_entry ty x e is =
-    elim (is_whole ty x) as (λ b. is_whole ty x ≡ b → cond b (alike (first_place (other_key ty.keys x.key) (other_val ty.vals x.row)) (values_of ty x)) (refused x.at TypesDiffer) ≡ Ok e → AreKeys ty.keys x.key e.key × AreVals ty.vals x.row e.row) [
-      | true ↦ λ w i. found_values ty x e w (alike_ok (first_place (other_key ty.keys x.key) (other_val ty.vals x.row)) (values_of ty x) e i)
+    elim (is_whole ty x) as (λ b. is_whole ty x ≡ b → cond b (alike (first_place (wrong_key_lit ty.keys x.key) (wrong_val_lit ty.vals x.row)) (values_of ty x)) (refused x.at TypesDiffer) ≡ Ok e → AreKeys ty.keys x.key e.key × AreVals ty.vals x.row e.row) [
+      | true ↦ λ w i. found_values ty x e w (alike_ok (first_place (wrong_key_lit ty.keys x.key) (wrong_val_lit ty.vals x.row)) (values_of ty x) e i)
       | false ↦ λ w i. cc
     ] refl is
 

@@ -16,4 +16,4 @@ pub mod SeenNames
 pub mod SizeFacts
 pub mod StoredColumns
 pub mod TypedFacts
-pub mod Walks
+pub mod WalkFacts

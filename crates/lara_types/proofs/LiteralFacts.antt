@@ -18,8 +18,7 @@ use Rattle.lara_semiring.specs.Rows.{row_has, row_is_over}
 use Rattle.lara_data.specs.declared.node.Node.{Node}
 use Rattle.lara_data.specs.declared.table_type.KeyCol.{KeyCol}
 use Rattle.lara_data.specs.declared.table_type.ValCol.{ValCol}
-use Rattle.lara_data.specs.Apart.{AllKeys}
-use Rattle.lara_data.specs.KeyedTables.{Row, all_have}
+use Rattle.lara_data.specs.KeyedTables.{AllKeys, Row, all_have}
 use Rattle.lara_data.specs.Names.{Tuple}
 use Rattle.lara_data.specs.TableTypes.{Columns, types, key_types}
 use Rattle.lara_data.specs.Tables.{Entries, is_entry_in_range}

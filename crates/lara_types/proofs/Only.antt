@@ -22,9 +22,10 @@ use Rattle.lara_syntax.specs.declared.ast.AstStatement.{AstStatement}
 use Rattle.lara_syntax.specs.declared.ast.AstStatement.TheVariants as ast
 use Rattle.lara_types.specs.CheckedTrees.{typed, plain, known_type, placed, placed_agg, checked_op}
 use Rattle.lara_types.specs.Checks.{order_of, checked_statement, Progress, at_start, one_more, checked}
-use Rattle.lara_types.specs.HasTypes.{OpHas, IsOrder, StatementHas, AllHave, HasTypes}
-use Rattle.lara_types.specs.Judgements.{refused}
-use Rattle.lara_types.specs.Steps.{◌>>=◌, walk}
+use Rattle.lara_types.specs.HasTypes.{OpHas, IsOrder, StatementHas, StatementsHave, HasTypes}
+use Rattle.lara_data.specs.Judgements.{refused}
+use Rattle.lara_base.specs.Results.{◌>>=◌}
+use Rattle.lara_types.specs.Walks.{walk}
 use Rattle.lara_types.proofs.Answered.{answered}
 use Rattle.lara_types.proofs.OnlyLiterals.{only_literal}
 
@@ -85,8 +86,8 @@ module _ (stored : List Schema) where
   abbrev behind : Progress → List Statement → Progress
   behind done ss = record { known = all_known done.known ss; statements = done.statements ++ ss }
 
-  all_only : (done : Progress) (xs : List AstStatement) (ss : List Statement) → AllHave stored done.known xs ss → walk (one_more stored) done xs ≡ Ok (behind done ss)
-  unfolding walk AllHave all_known
+  all_only : (done : Progress) (xs : List AstStatement) (ss : List Statement) → StatementsHave stored done.known xs ss → walk (one_more stored) done xs ≡ Ok (behind done ss)
+  unfolding walk StatementsHave all_known
   all_only done [] [] h = λ i. answered (record { known = done.known; statements = sym (append-nil done.statements) i })
   all_only done [] (s ∷ ss) h = absurd h
   all_only done (x ∷ xs) [] h = absurd h

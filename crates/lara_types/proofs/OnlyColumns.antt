@@ -14,12 +14,14 @@ use Rattle.lara_syntax.specs.declared.ast.AstType.{AstType}
 use Rattle.lara_syntax.specs.declared.ast.AstValCol.{AstValCol}
 use Rattle.lara_types.specs.CheckedTrees.{plain}
 use Rattle.lara_types.specs.HasTypes.{columns}
-use Rattle.lara_types.specs.Judgements.{refused}
+use Rattle.lara_data.specs.Judgements.{refused}
 use Rattle.lara_types.specs.LiteralTypes.{one_more_name, one_more_val, distinct_names, key_col, val_col, few_enough, literal_type}
-use Rattle.lara_types.specs.Steps.{◌>>=◌, walk}
+use Rattle.lara_base.specs.Results.{◌>>=◌}
+use Rattle.lara_types.specs.Walks.{walk}
 use Rattle.lara_types.proofs.Answered.{answered}
 use Rattle.lara_data.specs.Sequences.{turned_name}
-use Rattle.lara_types.proofs.Walks.{bind_same, walk-append}
+use Rattle.lara_base.specs.Results.{bind_same}
+use Rattle.lara_types.proofs.WalkFacts.{walk-append}
 
 -- ---- names in their sequence
 

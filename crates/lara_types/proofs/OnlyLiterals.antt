@@ -27,9 +27,10 @@ use Rattle.lara_syntax.specs.declared.ast.AstValue.{AstValue}
 use Rattle.lara_syntax.specs.declared.ast.AstValue.TheVariants.{Number}
 use Rattle.lara_types.specs.CheckedTrees.{typed, literal_node}
 use Rattle.lara_types.specs.HasTypes.{IsKey, IsVal, AreKeys, AreVals, AreEntries, columns, LiteralHas}
-use Rattle.lara_types.specs.Judgements.{Judged, refused}
-use Rattle.lara_types.specs.LiteralEntries.{is_key_lit, is_val_lit, other_key, other_val, key_of, val_of, keys_from, vals_from, values_of, first_place, alike, entry_of, one_more_entry, entries_of}
-use Rattle.lara_types.specs.Steps.{◌>>=◌, walk}
+use Rattle.lara_data.specs.Judgements.{Judged, refused}
+use Rattle.lara_types.specs.LiteralEntries.{is_key_lit, is_val_lit, wrong_key_lit, wrong_val_lit, key_of, val_of, keys_from, vals_from, values_of, first_place, alike, entry_of, one_more_entry, entries_of}
+use Rattle.lara_base.specs.Results.{◌>>=◌}
+use Rattle.lara_types.specs.Walks.{walk}
 use Rattle.lara_types.proofs.Answered.{answered}
 use Rattle.lara_types.proofs.OnlyColumns.{only_columns}
 
@@ -57,8 +58,8 @@ record Read {A : Type 0} (number columns : ℕ) (other : Option ℕ) (read : Jud
   alike_all : other ≡ None
   answer : read ≡ Ok all
 
-only_keys : (done : Tuple) (cs : List KeyCol) (ls : List AstLit) (ks : Tuple) → AreKeys cs ls ks → Read (length ls) (length cs) (other_key cs ls) (keys_from done cs ls) (done ++ ks)
-unfolding AreKeys keys_from other_key
+only_keys : (done : Tuple) (cs : List KeyCol) (ls : List AstLit) (ks : Tuple) → AreKeys cs ls ks → Read (length ls) (length cs) (wrong_key_lit cs ls) (keys_from done cs ls) (done ++ ks)
+unfolding AreKeys keys_from wrong_key_lit
 only_keys done [] [] [] h = record { whole = refl; alike_all = refl; answer = ap answered (sym (append-nil done)) }
 only_keys done [] [] (k ∷ ks) h = absurd h
 only_keys done [] (l ∷ ls) ks h = absurd h
@@ -68,12 +69,12 @@ only_keys done (c ∷ cs) (l ∷ ls) (k ∷ ks) h =
     let rest = only_keys (done ++ k ∷ []) cs ls ks h.1 in
     record {
       whole = ap suc rest.whole;
-      alike_all = (λ i. cond (key_kind c.ty l.value k h.0 i) (other_key cs ls) (Some l.at)) ∙ rest.alike_all;
+      alike_all = (λ i. cond (key_kind c.ty l.value k h.0 i) (wrong_key_lit cs ls) (Some l.at)) ∙ rest.alike_all;
       answer = (λ i. only_key c.ty l.at l.value k h.0 i >>= λ v. keys_from (done ++ v ∷ []) cs ls) ∙ rest.answer ∙ ap answered (append_assoc done (k ∷ []) ks);
     }
 
-only_vals : (done : Row) (cs : List ValCol) (ls : List AstLit) (vs : Row) → AreVals cs ls vs → Read (length ls) (length cs) (other_val cs ls) (vals_from done cs ls) (done ++ vs)
-unfolding AreVals vals_from other_val
+only_vals : (done : Row) (cs : List ValCol) (ls : List AstLit) (vs : Row) → AreVals cs ls vs → Read (length ls) (length cs) (wrong_val_lit cs ls) (vals_from done cs ls) (done ++ vs)
+unfolding AreVals vals_from wrong_val_lit
 only_vals done [] [] [] h = record { whole = refl; alike_all = refl; answer = ap answered (sym (append-nil done)) }
 only_vals done [] [] (v ∷ vs) h = absurd h
 only_vals done [] (l ∷ ls) vs h = absurd h
@@ -83,7 +84,7 @@ only_vals done (c ∷ cs) (l ∷ ls) (v ∷ vs) h =
     let rest = only_vals (done ++ v ∷ []) cs ls vs h.1 in
     record {
       whole = ap suc rest.whole;
-      alike_all = (λ i. cond (val_kind c.ty l.value v h.0 i) (other_val cs ls) (Some l.at)) ∙ rest.alike_all;
+      alike_all = (λ i. cond (val_kind c.ty l.value v h.0 i) (wrong_val_lit cs ls) (Some l.at)) ∙ rest.alike_all;
       answer = (λ i. only_val c.ty l.at l.value v h.0 i >>= λ w. vals_from (done ++ w ∷ []) cs ls) ∙ rest.answer ∙ ap answered (append_assoc done (v ∷ []) vs);
     }
 
@@ -95,7 +96,7 @@ only_entry ty x e h g =
     let k = only_keys [] ty.keys x.key e.key h in
     let v = only_vals [] ty.vals x.row e.row g in
     let whole = and_from (length x.key == length ty.keys) (length x.row == length ty.vals) (eq-eqb (length x.key) (length ty.keys) k.whole) (eq-eqb (length x.row) (length ty.vals) v.whole) in
-    (λ i. cond (whole i) (alike (first_place (other_key ty.keys x.key) (other_val ty.vals x.row)) (values_of ty x)) (refused x.at TypesDiffer))
+    (λ i. cond (whole i) (alike (first_place (wrong_key_lit ty.keys x.key) (wrong_val_lit ty.vals x.row)) (values_of ty x)) (refused x.at TypesDiffer))
     ∙ (λ i. alike (first_place (k.alike_all i) (v.alike_all i)) (values_of ty x))
     ∙ (λ i. k.answer i >>= λ key. vals_from [] ty.vals x.row >>= λ row. answered (record { key = key; row = row }))
     ∙ (λ i. v.answer i >>= λ row. answered (record { key = e.key; row = row }))

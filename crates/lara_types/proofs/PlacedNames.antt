@@ -10,7 +10,7 @@ use Rattle.lara_syntax.specs.declared.ast.AstName.{AstName}
 use Rattle.lara_data.specs.declared.table_type.KeyCol.{KeyCol}
 use Rattle.lara_data.specs.TableTypes.{key_names}
 use Rattle.lara_types.specs.CheckedTrees.{plain, stranger, repeated}
-use Rattle.lara_types.proofs.Walks.{map-more}
+use Rattle.lara_types.proofs.WalkFacts.{map-more}
 
 has_plain : (names : List AstName) (n : Name) → has (plain names) n ≡ list_any (λ m. bytes_eq n m.name) names
 unfolding has same_name

@@ -15,7 +15,7 @@ use Rattle.lara_syntax.specs.declared.ast.AstOp.TheVariants.{Load, Named, Litera
 use Rattle.lara_syntax.specs.declared.ast.AstStatement.{AstStatement}
 use Rattle.lara_syntax.specs.declared.ast.AstStatement.TheVariants as ast
 use Rattle.lara_types.specs.CheckedTrees.{plain}
-use Rattle.lara_types.specs.HasTypes.{OpHas, StatementHas, AllHave, HasTypes}
+use Rattle.lara_types.specs.HasTypes.{OpHas, StatementHas, StatementsHave, HasTypes}
 use Rattle.lara_types.specs.Sizes.{written_nodes, nodes_written, nodes_typed, all_written, all_typed}
 
 -- a typed tree has as many nodes as what is written
@@ -41,8 +41,8 @@ same_in_statement stored known (ast.Assign at name tree) s h = ap nodes_typed h.
 same_in_statement stored known (ast.Print at name by) s h = ap nodes_typed h.2
 same_in_statement stored known (ast.Store at old new) s h = ap nodes_typed h.1
 
-same_in_all : (stored known : List Schema) (xs : List AstStatement) (ss : List Statement) → AllHave stored known xs ss → all_typed ss ≡ all_written xs
-unfolding AllHave
+same_in_all : (stored known : List Schema) (xs : List AstStatement) (ss : List Statement) → StatementsHave stored known xs ss → all_typed ss ≡ all_written xs
+unfolding StatementsHave
 same_in_all stored known [] [] h = refl
 same_in_all stored known [] (s ∷ ss) h = absurd h
 same_in_all stored known (x ∷ xs) [] h = absurd h
@@ -51,8 +51,8 @@ same_in_all stored known (x ∷ xs) (s ∷ ss) h =
     ∙ (λ i. same_in_statement stored known x s h.0 i + same_in_all stored (known_after known s) xs ss h.1 i)
     ∙ sym (sum_by-cons nodes_written x xs)
 
-same_length : (stored known : List Schema) (xs : List AstStatement) (ss : List Statement) → AllHave stored known xs ss → length ss ≡ length xs
-unfolding AllHave
+same_length : (stored known : List Schema) (xs : List AstStatement) (ss : List Statement) → StatementsHave stored known xs ss → length ss ≡ length xs
+unfolding StatementsHave
 same_length stored known [] [] h = refl
 same_length stored known [] (s ∷ ss) h = absurd h
 same_length stored known (x ∷ xs) [] h = absurd h

@@ -21,7 +21,7 @@ use Rattle.lara_syntax.specs.declared.ast.AstOp.TheVariants.{Load, Named, Litera
 use Rattle.lara_syntax.specs.declared.ast.AstStatement.{AstStatement}
 use Rattle.lara_syntax.specs.declared.ast.AstStatement.TheVariants as ast
 use Rattle.lara_types.specs.CheckedTrees.{plain}
-use Rattle.lara_types.specs.HasTypes.{OpHas, IsOrder, StatementHas, AllHave, HasTypes}
+use Rattle.lara_types.specs.HasTypes.{OpHas, IsOrder, StatementHas, StatementsHave, HasTypes}
 use Rattle.lara_types.specs.StoredTypes.{AllColumns}
 use Rattle.lara_types.proofs.ColumnFacts.{among_all}
 use Rattle.lara_types.proofs.LiteralFacts.{is_literal}
@@ -87,8 +87,8 @@ module _ (stored : List Schema) (of_stored : AllColumns stored) where
       subst (StatementTyped known) (sym h.2) (subst (λ (t : Option Columns). PrintTyped t h.1) (sym h.3) (order_typed h.0 by h.1 h.4))
   statement_typed known (ast.Store at old new) s h = subst (StatementTyped known) (sym h.1) (subst StoreTyped (sym h.2) tt)
 
-  all_are_typed : (known : List Schema) (xs : List AstStatement) (ss : List Statement) → AllHave stored known xs ss → AllTyped known ss
-  unfolding AllHave AllTyped
+  all_are_typed : (known : List Schema) (xs : List AstStatement) (ss : List Statement) → StatementsHave stored known xs ss → AllTyped known ss
+  unfolding StatementsHave AllTyped
   all_are_typed known [] [] h = tt
   all_are_typed known [] (s ∷ ss) h = absurd h
   all_are_typed known (x ∷ xs) [] h = absurd h

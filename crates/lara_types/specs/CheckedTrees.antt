@@ -18,11 +18,12 @@ use Rattle.lara_syntax.specs.declared.ast.AstOp.{AstOp}
 use Rattle.lara_syntax.specs.declared.ast.AstOp.TheBlock.{end_of-AstNode, more_of-AstNode}
 use Rattle.lara_syntax.specs.declared.ast.AstOp.TheVariants.{Load, Named, Literal, Join', Union', Agg', Map', Filter', Promote', Rename', Apply'}
 use Rattle.lara_syntax.specs.declared.ast.AstType.{AstType}
-use Rattle.lara_types.specs.Judgements.{Judged, refused}
+use Rattle.lara_data.specs.Judgements.{Judged, refused}
 use Rattle.lara_types.specs.LiteralEntries.{entries_of}
 use Rattle.lara_types.specs.LiteralTypes.{literal_type}
-use Rattle.lara_types.specs.Steps.{◌>>=◌}
+use Rattle.lara_base.specs.Results.{◌>>=◌}
 
+-- an operator with the columns of its table
 abbrev pub typed : Columns → Op → Node
 typed ty op = record { ty = ty; op = op }
 
@@ -30,7 +31,7 @@ typed ty op = record { ty = ty; op = op }
 abbrev pub plain : List AstName → List Name
 plain ns = map (λ n. n.name) ns
 
--- the type that a name was found to have; where it has none, this is the refusal's kind
+-- the type that was found for a name, or a refusal of this kind at the name where none was found
 abbrev pub known_type : Kind → AstName → Option Columns → Judged Columns
 known_type kind n None = refused n.at kind
 known_type kind n (Some ty) = Ok ty
@@ -47,12 +48,12 @@ abbrev pub placed : ℕ → Op → Typing → Judged Node
 placed at op (Ok ty) = Ok (typed ty op)
 placed at op (Err kind) = refused at kind
 
--- the place of the first name that is no key column's, or another
+-- the place of the first name that is no key column's, or the other place where there is none
 unfoldable pub stranger : List KeyCol → ℕ → List AstName → ℕ
 stranger keys other [] = other
 stranger keys other (n ∷ ns) = if has (key_names keys) n.name then stranger keys other ns else n.at
 
--- the place of the first name that stands among those before it, or another
+-- the place of the first name that stands among those before it, or the other place where there is none
 unfoldable pub repeated : List Name → ℕ → List AstName → ℕ
 repeated before other [] = other
 repeated before other (n ∷ ns) = if has before n.name then n.at else repeated (before ++ n.name ∷ []) other ns

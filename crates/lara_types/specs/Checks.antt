@@ -13,8 +13,9 @@ use Rattle.lara_syntax.specs.declared.ast.AstBy.{AstBy}
 use Rattle.lara_syntax.specs.declared.ast.AstStatement.{AstStatement}
 use Rattle.lara_syntax.specs.declared.ast.AstStatement.TheVariants as ast
 use Rattle.lara_types.specs.CheckedTrees.{plain, known_type, checked_node}
-use Rattle.lara_types.specs.Judgements.{Judged, refused}
-use Rattle.lara_types.specs.Steps.{◌>>=◌, walk}
+use Rattle.lara_data.specs.Judgements.{Judged, refused}
+use Rattle.lara_base.specs.Results.{◌>>=◌}
+use Rattle.lara_types.specs.Walks.{walk}
 
 -- the order of a print: without `by` the declared one
 abbrev pub order_of : Columns → Option AstBy → Judged (List Name)
@@ -39,6 +40,7 @@ pub record Progress : Type 0 where
   pub known : List Schema
   pub statements : List Statement
 
+-- before the first statement
 abbrev pub at_start : Progress
 at_start = record { known = []; statements = [] }
 

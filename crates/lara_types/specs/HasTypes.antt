@@ -57,6 +57,7 @@ AreKeys [] [] [] = Unit {0}
 AreKeys (c ∷ cs) (l ∷ ls) (k ∷ ks) = IsKey c.ty l.value k × AreKeys cs ls ks
 AreKeys cs ls ks = ⊥
 
+-- as many literals as value columns, and each is the value of its column
 unfoldable pub AreVals : List ValCol → List AstLit → Row → Type 0
 AreVals [] [] [] = Unit {0}
 AreVals (c ∷ cs) (l ∷ ls) (v ∷ vs) = IsVal c.ty l.value v × AreVals cs ls vs
@@ -100,6 +101,7 @@ OpHas stored known (Promote' _ (more_of-AstNode i a end_of-AstNode) def) node = 
 OpHas stored known (Rename' _ (more_of-AstNode i a end_of-AstNode) pairs) node = ⊥
 OpHas stored known (Apply' _ (more_of-AstNode i a end_of-AstNode) call) node = ⊥
 
+-- the written node stands for the typed one
 abbrev pub NodeHas : List Schema → List Schema → AstNode → Node → Type 0
 NodeHas stored known tree node = OpHas stored known tree.op node
 
@@ -110,17 +112,18 @@ abbrev pub IsOrder : Columns → Option AstBy → List Name → Type 0
 IsOrder ty None order = order ≡ key_names ty.keys
 IsOrder ty (Some by) order = (order ≡ plain by.names) × (is_order order (key_names ty.keys) ≡ true)
 
+-- the written statement stands for the typed one
 abbrev pub StatementHas : List Schema → List Schema → AstStatement → Statement → Type 0
 StatementHas stored known (ast.Assign at name tree) s = (node : Node) × (s ≡ Assign name.name node) × NodeHas stored known tree node
 StatementHas stored known (ast.Print at name by) s = (ty : Columns) × (order : List Name) × (s ≡ Print name.name order) × (type_named name.name known ≡ Some ty) × IsOrder ty by order
 StatementHas stored known (ast.Store at old new) s = (ty : Columns) × (s ≡ Store old.name new.name) × (type_named old.name known ≡ Some ty)
 
 -- each statement, where the names of those before it are known
-unfoldable pub AllHave : List Schema → List Schema → List AstStatement → List Statement → Type 0
-AllHave stored known [] [] = Unit {0}
-AllHave stored known (x ∷ xs) (s ∷ ss) = StatementHas stored known x s × AllHave stored (known_after known s) xs ss
-AllHave stored known xs ss = ⊥
+unfoldable pub StatementsHave : List Schema → List Schema → List AstStatement → List Statement → Type 0
+StatementsHave stored known [] [] = Unit {0}
+StatementsHave stored known (x ∷ xs) (s ∷ ss) = StatementHas stored known x s × StatementsHave stored (known_after known s) xs ss
+StatementsHave stored known xs ss = ⊥
 
 -- the tree of a script stands for the typed script, over the stored names
 abbrev pub HasTypes : List Schema → Ast → List Statement → Type 0
-HasTypes stored tree ss = AllHave stored [] tree.statements ss
+HasTypes stored tree ss = StatementsHave stored [] tree.statements ss

@@ -1,10 +1,9 @@
 pub mod CheckedTrees
 pub mod Checks
 pub mod HasTypes
-pub mod Judgements
 pub mod LiteralEntries
 pub mod LiteralTypes
 pub mod Seen
 pub mod Sizes
-pub mod Steps
 pub mod StoredTypes
+pub mod Walks

@@ -17,34 +17,38 @@ use Rattle.lara_data.specs.declared.table_type.KeyCol.{KeyCol}
 use Rattle.lara_data.specs.declared.table_type.ValCol.{ValCol}
 use Rattle.lara_data.specs.TableTypes.{Columns}
 use Rattle.lara_data.specs.Tables.{Entry, Entries}
-use Rattle.lara_types.specs.Steps.{◌>>=◌, walk}
-use Rattle.lara_types.specs.Judgements.{Judged, refused}
+use Rattle.lara_base.specs.Results.{◌>>=◌}
+use Rattle.lara_types.specs.Walks.{walk}
+use Rattle.lara_data.specs.Judgements.{Judged, refused}
 
 -- the literal is of the kind that a key column takes
 abbrev pub is_key_lit : KeyType → AstValue → Bool
 is_key_lit Nat (Number n) = true
 is_key_lit Nat other = false
 
+-- the literal is of the kind that a value column takes
 abbrev pub is_val_lit : ValType → AstValue → Bool
 is_val_lit Count (Number n) = true
 is_val_lit Count other = false
 
--- the place of the first literal of another kind than its column's
-unfoldable pub other_key : List KeyCol → List AstLit → Option ℕ
-other_key [] lits = None
-other_key (c ∷ cs) [] = None
-other_key (c ∷ cs) (l ∷ ls) = if is_key_lit c.ty l.value then other_key cs ls else Some l.at
+-- the place of the first literal of the wrong kind for its key column
+unfoldable pub wrong_key_lit : List KeyCol → List AstLit → Option ℕ
+wrong_key_lit [] lits = None
+wrong_key_lit (c ∷ cs) [] = None
+wrong_key_lit (c ∷ cs) (l ∷ ls) = if is_key_lit c.ty l.value then wrong_key_lit cs ls else Some l.at
 
-unfoldable pub other_val : List ValCol → List AstLit → Option ℕ
-other_val [] lits = None
-other_val (c ∷ cs) [] = None
-other_val (c ∷ cs) (l ∷ ls) = if is_val_lit c.ty l.value then other_val cs ls else Some l.at
+-- the place of the first literal of the wrong kind for its value column
+unfoldable pub wrong_val_lit : List ValCol → List AstLit → Option ℕ
+wrong_val_lit [] lits = None
+wrong_val_lit (c ∷ cs) [] = None
+wrong_val_lit (c ∷ cs) (l ∷ ls) = if is_val_lit c.ty l.value then wrong_val_lit cs ls else Some l.at
 
--- a number below 2 ^ 64 - 1, which stands for all past the range
+-- a key value: a number below 2 ^ 64 - 1, which stands for all past the range
 abbrev pub key_of : KeyType → ℕ → AstValue → Judged KeyVal
 key_of Nat at (Number n) = if nat_lt n (2 ^ 64 - 1) then Ok (key.Nat n) else refused at NotInRange
 key_of Nat at other = refused at TypesDiffer
 
+-- a value: a number below 2 ^ 64 - 1, which stands for all past the range
 abbrev pub val_of : ValType → ℕ → AstValue → Judged Value
 val_of Count at (Number n) = if nat_lt n (2 ^ 64 - 1) then Ok (value.Count n) else refused at NotInRange
 val_of Count at other = refused at TypesDiffer
@@ -77,7 +81,7 @@ abbrev pub first_place : Option ℕ → Option ℕ → Option ℕ
 first_place None next = next
 first_place (Some at) next = Some at
 
--- no literal is of another kind than its column's
+-- what follows, or a refusal at the place of a literal of the wrong kind
 abbrev pub alike : {A : Type 0} → Option ℕ → Judged A → Judged A
 alike None next = next
 alike (Some at) next = refused at TypesDiffer
@@ -90,9 +94,10 @@ is_whole ty e = length e.key == length ty.keys && length e.row == length ty.vals
 unfoldable pub entry_of : Columns → AstEntry → Judged Entry
 entry_of ty e =
     if is_whole ty e
-    then alike (first_place (other_key ty.keys e.key) (other_val ty.vals e.row)) (values_of ty e)
+    then alike (first_place (wrong_key_lit ty.keys e.key) (wrong_val_lit ty.vals e.row)) (values_of ty e)
     else refused e.at TypesDiffer
 
+-- one entry more, behind the others
 abbrev pub one_more_entry : Columns → Entries → AstEntry → Judged Entries
 one_more_entry ty es e = do
   x ← entry_of ty e

@@ -9,23 +9,27 @@ use Rattle.lara_data.specs.declared.table_type.KeyCol.{KeyCol}
 use Rattle.lara_data.specs.declared.table_type.ValCol.{ValCol}
 use Rattle.lara_data.specs.TableTypes.{Columns, typed_columns}
 use Rattle.lara_data.specs.Names.{has}
-use Rattle.lara_types.specs.Steps.{◌>>=◌, walk}
-use Rattle.lara_types.specs.Judgements.{Judged, refused}
+use Rattle.lara_base.specs.Results.{◌>>=◌}
+use Rattle.lara_types.specs.Walks.{walk}
+use Rattle.lara_data.specs.Judgements.{Judged, refused}
 
 -- one name more, which has not stood before
 abbrev pub one_more_name : List (List ℕ) → AstName → Judged (List (List ℕ))
 one_more_name names n = if has names n.name then refused n.at NameTwice else Ok (names ++ n.name ∷ [])
 
--- the name of a column
+-- the name of a key column
 abbrev pub key_col_name : AstKeyCol → List ℕ
 key_col_name c = c.name.name
 
+-- the name of a value column
 abbrev pub val_col_name : AstValCol → List ℕ
 val_col_name c = c.name.name
 
+-- the name of one key column more
 abbrev pub one_more_key : List (List ℕ) → AstKeyCol → Judged (List (List ℕ))
 one_more_key names c = one_more_name names c.name
 
+-- the name of one value column more
 abbrev pub one_more_val : List (List ℕ) → AstValCol → Judged (List (List ℕ))
 one_more_val names c = one_more_name names c.name
 
@@ -35,13 +39,15 @@ distinct_names keys vals = do
   names ← walk one_more_key [] keys
   walk one_more_val names vals
 
--- the columns without places
+-- a key column without places
 abbrev pub key_col : AstKeyCol → KeyCol
 key_col c = record { name = c.name.name; ty = c.ty }
 
+-- a value column without places
 abbrev pub val_col : AstValCol → ValCol
 val_col c = record { name = c.name.name; ty = c.ty }
 
+-- the columns, or the refusal where they are too many
 abbrev pub few_enough : ℕ → Option Columns → Judged Columns
 few_enough at None = refused at TooManyColumns
 few_enough at (Some ty) = Ok ty

@@ -24,19 +24,22 @@ written_nodes (Promote' _ (more_of-AstNode i a end_of-AstNode) def) = 1 + writte
 written_nodes (Rename' _ (more_of-AstNode i a end_of-AstNode) pairs) = 1 + written_nodes a
 written_nodes (Apply' _ (more_of-AstNode i a end_of-AstNode) call) = 1 + written_nodes a
 
+-- the nodes of a statement with places
 abbrev pub nodes_written : AstStatement → ℕ
 nodes_written (ast.Assign at name tree) = written_nodes tree.op
 nodes_written (ast.Print at name by) = 0
 nodes_written (ast.Store at old new) = 0
 
+-- the nodes of a typed statement
 abbrev pub nodes_typed : Statement → ℕ
 nodes_typed (Assign name node) = nodes node.op
 nodes_typed (Print name order) = 0
 nodes_typed (Store old new) = 0
 
--- the nodes of all statements
+-- the nodes of all statements with places
 abbrev pub all_written : List AstStatement → ℕ
 all_written xs = sum_by nodes_written xs
 
+-- the nodes of all typed statements
 abbrev pub all_typed : List Statement → ℕ
 all_typed ss = sum_by nodes_typed ss

@@ -8,7 +8,7 @@ use lara_base::{List, Name};
 use lara_data::{KeyCol, Kind, TableType, is_key_name};
 use lara_syntax::AstName;
 
-// The place of the first name that is no key column's, or another.
+// The place of the first name that is no key column's, or `other`.
 fn stranger(keys: &[KeyCol], other: u32, names: &[AstName]) -> u32
     ensures { result ≡ stranger keys.now other names.now }
 {
@@ -27,8 +27,8 @@ fn is_among(names: &[AstName], name: &Name) -> bool
     names.iter().any(|n| name.same(&n.name))
 }
 
-// The place of the first name that stands among those before it, or another. Where the names are among a few, this takes
-// that many turns at most.
+// The place of the first name that stands among those before it, or `other`. It ends at the first repeat, so where all
+// are names of k columns, it takes at most k + 1 turns.
 fn repeated(other: u32, names: &[AstName]) -> u32
     ensures { result ≡ repeated [] other names.now }
 {

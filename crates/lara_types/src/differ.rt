@@ -1,19 +1,11 @@
 //! Names that stand for a column of one kind on one side of an operator and of another on the other.
 ghost use Rattle.std.specs.Prelude.{◌≡◌};
 ghost use Rattle.std.specs.List.{list_any};
-ghost use Rattle.lara_data.specs.TypeRules.{same_key_type, is_other_key, is_other_val, key_differs, val_differs, types_differ};
+ghost use Rattle.lara_data.specs.TypeRules.{is_other_key, is_other_val, key_differs, val_differs, types_differ};
 
-use crate::named::{has_key, has_val};
-use lara_data::{KeyCol, TableType, ValCol, same_type};
-use lara_key::KeyType;
-
-fn same_key_type(a: KeyType, b: KeyType) -> bool
-    ensures { result ≡ same_key_type a b }
-{
-    match (a, b) {
-        (KeyType::Nat, KeyType::Nat) => true,
-    }
-}
+use lara_data::{KeyCol, TableType, ValCol, has_key, has_val};
+use lara_key::same_key_type;
+use lara_semiring::same_val_type;
 
 #[tactic(auto, unfolding(lara_data::specs::Names::same_name))]
 fn is_other_key(k: &KeyCol, l: &KeyCol) -> bool
@@ -26,7 +18,7 @@ fn is_other_key(k: &KeyCol, l: &KeyCol) -> bool
 fn is_other_val(v: &ValCol, w: &ValCol) -> bool
     ensures { result ≡ is_other_val v.now w.now }
 {
-    v.name.same(&w.name) && !same_type(v.ty, w.ty)
+    v.name.same(&w.name) && !same_val_type(v.ty, w.ty)
 }
 
 fn has_other_key(keys: &[KeyCol], k: &KeyCol) -> bool

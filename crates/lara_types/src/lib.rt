@@ -13,10 +13,15 @@ mod scripts;
 mod stored;
 mod trees;
 
+pub use lara_data::Schema;
 pub use rules::{Typed, type_agg, type_join, type_union};
 pub use scripts::check;
 
 #[cfg(test)]
 mod tests;
+#[cfg(test)]
+mod tests_copies;
+#[cfg(test)]
+mod tests_made;
 #[cfg(test)]
 mod tests_scripts;

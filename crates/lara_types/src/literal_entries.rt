@@ -1,18 +1,18 @@
 //! The entries of a literal: as many literals as columns, of their kinds and in their ranges.
 ghost use Rattle.std.specs.Prelude.{◌≡◌, [], ◌++◌, ◌∷◌, length, true, IfErr, IfOk, IfSome};
 ghost use Rattle.lara_semiring.specs.Rows.{row_has};
-ghost use Rattle.lara_types.specs.Steps.{walk};
+ghost use Rattle.lara_types.specs.Walks.{walk};
 ghost use Rattle.lara_data.specs.KeyedTables.{all_have};
 ghost use Rattle.lara_data.specs.TableTypes.{types};
-ghost use Rattle.lara_types.specs.Judgements.{Judges, NotMemory};
-ghost use Rattle.lara_types.specs.LiteralEntries.{is_key_lit, is_val_lit, other_key, other_val, key_of, val_of, keys_from, vals_from, values_of, first_place, is_whole, entry_of, one_more_entry};
+ghost use Rattle.lara_data.specs.Judgements.{Judges, NotMemory};
+ghost use Rattle.lara_types.specs.LiteralEntries.{is_key_lit, is_val_lit, wrong_key_lit, wrong_val_lit, key_of, val_of, keys_from, vals_from, values_of, first_place, is_whole, entry_of, one_more_entry};
 
 use crate::refuse::refused;
 use lara_base::List;
-use lara_data::Entry;
+use lara_data::{Entry, KeyCol, Kind, ReadFault, TableType, ValCol};
 use lara_key::{KeyType, KeyVal, Tuple};
 use lara_semiring::{Row, ValType, Value};
-use lara_syntax::{AstEntry, AstLit, AstValue, KeyCol, Kind, ReadFault, TableType, ValCol};
+use lara_syntax::{AstEntry, AstLit, AstValue};
 use std::alloc::Global;
 
 // Whether a literal is of the kind that a key column takes.
@@ -35,10 +35,10 @@ fn is_val_lit(ty: ValType, value: &AstValue) -> bool
     }
 }
 
-// The place of the first literal of another kind than its key column's.
-#[tactic(auto, unfolding(crate::specs::LiteralEntries::other_key))]
-fn other_key(cols: &[KeyCol], lits: &[AstLit]) -> Option<u32>
-    ensures { result ≡ other_key cols.now lits.now }
+// The place of the first literal of the wrong kind for its key column.
+#[tactic(auto, unfolding(crate::specs::LiteralEntries::wrong_key_lit))]
+fn wrong_key_lit(cols: &[KeyCol], lits: &[AstLit]) -> Option<u32>
+    ensures { result ≡ wrong_key_lit cols.now lits.now }
 {
     let [col, cols @ ..] = cols else {
         return None;
@@ -47,16 +47,16 @@ fn other_key(cols: &[KeyCol], lits: &[AstLit]) -> Option<u32>
         return None;
     };
     if is_key_lit(col.ty, &lit.value) {
-        other_key(cols, lits)
+        wrong_key_lit(cols, lits)
     } else {
         Some(lit.at)
     }
 }
 
-// The place of the first literal of another kind than its value column's.
-#[tactic(auto, unfolding(crate::specs::LiteralEntries::other_val))]
-fn other_val(cols: &[ValCol], lits: &[AstLit]) -> Option<u32>
-    ensures { result ≡ other_val cols.now lits.now }
+// The place of the first literal of the wrong kind for its value column.
+#[tactic(auto, unfolding(crate::specs::LiteralEntries::wrong_val_lit))]
+fn wrong_val_lit(cols: &[ValCol], lits: &[AstLit]) -> Option<u32>
+    ensures { result ≡ wrong_val_lit cols.now lits.now }
 {
     let [col, cols @ ..] = cols else {
         return None;
@@ -65,7 +65,7 @@ fn other_val(cols: &[ValCol], lits: &[AstLit]) -> Option<u32>
         return None;
     };
     if is_val_lit(col.ty, &lit.value) {
-        other_val(cols, lits)
+        wrong_val_lit(cols, lits)
     } else {
         Some(lit.at)
     }
@@ -147,13 +147,13 @@ fn values_of(alloc: Global, ty: &TableType, entry: &AstEntry) -> Result<Entry, R
     Ok(Entry { key, row })
 }
 
-// The place of the first literal of another kind than its column's.
-fn other_kind(ty: &TableType, entry: &AstEntry) -> Option<u32>
-    ensures { result ≡ first_place (other_key ty.now.keys entry.now.key) (other_val ty.now.vals entry.now.row) }
+// The place of the first literal of the wrong kind for its column, in the key or else in the row.
+fn wrong_lit(ty: &TableType, entry: &AstEntry) -> Option<u32>
+    ensures { result ≡ first_place (wrong_key_lit ty.now.keys entry.now.key) (wrong_val_lit ty.now.vals entry.now.row) }
 {
-    match other_key(ty.keys.as_slice(), entry.key.as_slice()) {
+    match wrong_key_lit(ty.keys.as_slice(), entry.key.as_slice()) {
         Some(at) => Some(at),
-        None => other_val(ty.vals.as_slice(), entry.row.as_slice()),
+        None => wrong_val_lit(ty.vals.as_slice(), entry.row.as_slice()),
     }
 }
 
@@ -173,7 +173,7 @@ fn entry_of(alloc: Global, ty: &TableType, entry: &AstEntry) -> Result<Entry, Re
     if !is_whole(ty, entry) {
         return Err(refused(entry.at, Kind::TypesDiffer));
     }
-    match other_kind(ty, entry) {
+    match wrong_lit(ty, entry) {
         Some(at) => Err(refused(at, Kind::TypesDiffer)),
         None => values_of(alloc, ty, entry),
     }

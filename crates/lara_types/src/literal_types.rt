@@ -1,16 +1,15 @@
 //! The type of a literal: columns whose names differ, and few enough.
 ghost use Rattle.std.specs.Prelude.{◌≡◌, [], ◌∷◌, ◌++◌, ℕ, List, map, OnOk, Some};
 ghost use Rattle.lara_data.specs.TableTypes.{typed_columns};
-ghost use Rattle.lara_types.specs.Steps.{walk};
-ghost use Rattle.lara_types.specs.Judgements.{Judges};
+ghost use Rattle.lara_types.specs.Walks.{walk};
+ghost use Rattle.lara_data.specs.Judgements.{Judges};
 ghost use Rattle.lara_types.specs.LiteralTypes.{one_more_name, one_more_key, one_more_val, distinct_names, key_col, val_col, key_col_name, val_col_name, few_enough, literal_type};
 ghost use Rattle.lara_types.specs.Seen.{Holds};
 
 use crate::refuse::refused;
 use lara_base::{Bytes, Copied, List};
-use lara_syntax::{
-    AstKeyCol, AstName, AstType, AstValCol, KeyCol, Kind, ReadFault, TableType, ValCol,
-};
+use lara_data::{KeyCol, Kind, ReadFault, TableType, ValCol};
+use lara_syntax::{AstKeyCol, AstName, AstType, AstValCol};
 use std::alloc::Global;
 use std::collections::BTreeSet;
 

@@ -1,25 +1,11 @@
-//! Names among names, and columns by their names.
+//! Names among names.
 ghost use Rattle.std.specs.Prelude.{◌≡◌};
 ghost use Rattle.std.specs.List.{list_all};
 ghost use Rattle.lara_data.specs.Names.{has, among, distinct};
-ghost use Rattle.lara_data.specs.TableTypes.{has_key, has_val, key_names};
+ghost use Rattle.lara_data.specs.TableTypes.{key_names};
 
 use lara_base::Name;
-use lara_data::{KeyCol, ValCol, is_key_name};
-
-/// Whether a key column has the name.
-pub fn has_key(keys: &[KeyCol], name: &Name) -> bool
-    ensures { result ≡ has_key name.now keys.now }
-{
-    keys.iter().any(|k| k.name.same(name))
-}
-
-/// Whether a value column has the name.
-pub fn has_val(vals: &[ValCol], name: &Name) -> bool
-    ensures { result ≡ has_val name.now vals.now }
-{
-    vals.iter().any(|v| v.name.same(name))
-}
+use lara_data::{KeyCol, is_key_name};
 
 /// Whether a name is among others.
 #[tactic(auto, unfolding(lara_data::specs::Names::has, lara_data::specs::Names::same_name))]

@@ -4,14 +4,14 @@ ghost use Rattle.std.specs.List.{list_all};
 ghost use Rattle.lara_data.specs.Names.{has};
 ghost use Rattle.lara_types.specs.Checks.{order_of};
 ghost use Rattle.lara_types.specs.CheckedTrees.{plain};
-ghost use Rattle.lara_types.specs.Judgements.{Judges};
+ghost use Rattle.lara_data.specs.Judgements.{Judges};
 ghost use Rattle.lara_data.specs.TypedScripts.{is_order};
 
 use crate::named::has;
 use crate::refuse::refused;
 use lara_base::{Copied, List, Name};
-use lara_data::key_names;
-use lara_syntax::{AstBy, AstName, Kind, ReadFault, TableType};
+use lara_data::{Kind, ReadFault, TableType, key_names};
+use lara_syntax::{AstBy, AstName};
 use std::alloc::Global;
 
 /// The names without their places.

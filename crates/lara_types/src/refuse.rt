@@ -1,7 +1,7 @@
 //! Refusals of a script.
 ghost use Rattle.std.specs.Prelude.{◌≡◌};
 
-use lara_syntax::{Kind, ReadFault, Refusal};
+use lara_data::{Kind, ReadFault, Refusal};
 
 /// A refusal at a place.
 pub fn refused(at: u32, kind: Kind) -> ReadFault

@@ -1,6 +1,6 @@
 //! The typed script of a tree with places: statement by statement, each where the names of those before it are known.
 ghost use Rattle.std.specs.Prelude.{◌≡◌, ℕ, true, List, map, length, Ok, IfOk, OnOk};
-ghost use Rattle.lara_data.specs.declared.script.Statement.{Statement as Typed};
+ghost use Rattle.lara_data.specs.declared.script.Statement.{Statement as TypedStatement};
 ghost use Rattle.lara_data.specs.Denotations.{Database};
 ghost use Rattle.lara_data.specs.Fits.{ScriptFits, TablesOf};
 ghost use Rattle.lara_data.specs.Names.{distinct};
@@ -8,7 +8,7 @@ ghost use Rattle.lara_data.specs.Plugins.{handed};
 ghost use Rattle.lara_data.specs.TypedScripts.{known_after};
 ghost use Rattle.lara_types.specs.Checks.{checked_statement, checked};
 ghost use Rattle.lara_types.specs.HasTypes.{HasTypes};
-ghost use Rattle.lara_types.specs.Judgements.{Judges};
+ghost use Rattle.lara_data.specs.Judgements.{Judges};
 ghost use Rattle.lara_types.specs.Sizes.{all_written, all_typed};
 
 use crate::orders::order_of;
@@ -124,7 +124,7 @@ pub fn check(
     // What is answered is what the tree stands for: each node as written, its columns by the rules (specs/HasTypes.antt).
     ensures found { IfOk result (λ ss. HasTypes stored.now tree.now ss) }
     // Whatever the tree stands for is answered, so that no such tree is refused (specs/HasTypes.antt).
-    ensures only { (ss : List Typed) → HasTypes stored.now tree.now ss → Judges (λ s. s) (Ok ss) result }
+    ensures only { (ss : List TypedStatement) → HasTypes stored.now tree.now ss → Judges (λ s. s) (Ok ss) result }
     // A refusal is the first in the order of the rules: its place and its kind (specs/Checks.antt; in words the table under
     // "Refusals" in docs/LANGUAGE.md).
     ensures exact { Judges (λ s. s) (checked stored.now tree.now) result }

@@ -1,4 +1,5 @@
 //! The rules where there is memory, with types and kinds worked out by hand.
+ghost use Rattle.std.specs.Prelude.{◌≡◌, ◌∷◌, [], IfOk};
 
 use crate::{Typed, type_agg, type_join, type_union};
 use lara_base::{List, Name};
@@ -8,7 +9,9 @@ use lara_semiring::ValType;
 use std::alloc::{AllocError, Global};
 use std::test::Fail;
 
-pub fn name(alloc: Global, letter: u8) -> Result<Name, AllocError> {
+pub fn name(alloc: Global, letter: u8) -> Result<Name, AllocError>
+    ensures { IfOk result (λ name. name ≡ letter ∷ []) }
+{
     Name::new(List::from_slice(alloc, &[letter])?).ok_or(AllocError)
 }
 

@@ -3,7 +3,7 @@ ghost use Rattle.std.specs.Prelude.{◌≡◌, IfErr};
 ghost use Rattle.std.specs.Option.{option_copied};
 ghost use Rattle.lara_data.specs.TypedTrees.{type_named};
 ghost use Rattle.lara_data.specs.TypeRules.{join_type, union_type, agg_type};
-ghost use Rattle.lara_types.specs.Judgements.{Judges, NotMemory};
+ghost use Rattle.lara_data.specs.Judgements.{Judges, NotMemory};
 ghost use Rattle.lara_types.specs.CheckedTrees.{plain, known_type, loaded, assigned, placed, placed_agg, literal_node, checked_op};
 
 use crate::agg_places::agg_place;

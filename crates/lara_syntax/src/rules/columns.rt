@@ -177,6 +177,7 @@ fn val_cols(alloc: Global, items: &[Item]) -> Result<(List<AstValCol>, &[Item]),
     read_val_cols(alloc, items)
 }
 
+/// type = "[" [ key_col { "," key_col } ] ":" val_col { "," val_col } "]"
 #[tactic(auto, unfolding(crate::specs::Reading::table_type))]
 pub fn table_type(alloc: Global, items: &[Item]) -> Result<(AstType, &[Item]), Fault>
     ensures { Gives (λ x. (x.0, x.1.now)) result (table_type items.now) }

@@ -169,7 +169,7 @@ fn more_entries(
     }
 }
 
-// [ entries ], entries = entry { ";" entry } [ ";" ]
+/// [ entries ], entries = entry { ";" entry } [ ";" ]
 #[tactic(auto, unfolding(crate::specs::Reading::some_entries))]
 pub fn some_entries(alloc: Global, items: &[Item]) -> Result<(List<AstEntry>, &[Item]), Fault>
     ensures { Gives (λ x. (x.0, x.1.now)) result (some_entries items.now) }

@@ -1,4 +1,4 @@
-//! Tables that stand on no other: names, files and literals.
+//! Tables that stand on no other: names, stored tables and literals.
 ghost use Rattle.std.specs.Prelude.{◌≡◌, ◌∷◌, ◌+◌, ◌≤◌, ◌<◌, [], length, IfOk};
 ghost use Rattle.lara_syntax.specs.Steps.{Gives};
 ghost use Rattle.lara_syntax.specs.Reading.{leaf};
@@ -12,7 +12,7 @@ use crate::steps::{name, next, sign, stopped};
 use lara_data::Kind;
 use std::alloc::Global;
 
-// leaf = NAME | "load" NAME | "table" type "{" [ entries ] "}"
+/// leaf = NAME | "load" NAME | "table" type "{" [ entries ] "}"
 #[tactic(auto, unfolding(crate::specs::Reading::leaf))]
 pub fn leaf(alloc: Global, items: &[Item]) -> Result<(AstNode, &[Item]), Fault>
     ensures { Gives (λ x. (x.0, x.1.now)) result (leaf items.now) }

@@ -48,7 +48,7 @@ fn more_names(
     }
 }
 
-// [ names ], names = NAME { "," NAME }
+/// [ names ], names = NAME { "," NAME }
 #[tactic(auto, unfolding(crate::specs::Reading::some_names))]
 pub fn some_names(alloc: Global, items: &[Item]) -> Result<(List<AstName>, &[Item]), Fault>
     ensures { Gives (λ x. (x.0, x.1.now)) result (some_names items.now) }

@@ -121,7 +121,7 @@ fn statements(alloc: Global, items: &[Item]) -> Result<(List<AstStatement>, &[It
     }
 }
 
-// The script that the words are.
+/// The script that the words are.
 #[tactic(auto, unfolding(crate::specs::Reading::script))]
 pub fn script(alloc: Global, items: &[Item]) -> Result<List<AstStatement>, Fault>
     ensures { Gives (λ x. x) result (read_value (script most items.now)) }

@@ -141,7 +141,7 @@ fn operand(
     Ok((x, taken, rest))
 }
 
-// table = "join" operand operand | "union" operand operand | "agg" operand "by" [ names ] | operand
+/// table = "join" operand operand | "union" operand operand | "agg" operand "by" [ names ] | operand
 #[tactic(auto, unfolding(crate::specs::Reading::table))]
 #[cycle(tables)]
 pub fn table(

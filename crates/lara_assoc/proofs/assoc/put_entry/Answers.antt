@@ -1,6 +1,6 @@
 use Rattle.std.proofs.Common.{sym}
 use Rattle.lara_key.specs.Keys.{tuple_cmp}
-use Rattle.lara_data.specs.KeyOrders.{tuple_order}
+use Rattle.lara_data.specs.TupleOrders.{tuple_order}
 use Rattle.lara_assoc.proofs.MapFacts.{lookup_has, step_new, step_new_zero, step_more, step_gone}
 use Rattle.lara_assoc.proofs.assoc.put_entry.Goals as goal
 

@@ -1,5 +1,5 @@
 use Rattle.std.proofs.Common.{◌≡◌, true, arith}
-use Rattle.lara_data.specs.KeyOrders.{tuple_order}
+use Rattle.lara_data.specs.TupleOrders.{tuple_order}
 use Rattle.lara_data.specs.KeyedTables.{all_have}
 use Rattle.lara_assoc.proofs.MapFacts.{total_begin, total_step, so_far_rises, so_far_has}
 use Rattle.lara_data.specs.KeyedTypes.{item_has}

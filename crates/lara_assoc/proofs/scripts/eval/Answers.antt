@@ -1,7 +1,7 @@
 use Rattle.std.proofs.Common.{◌≡◌, ◌<◌, ◌≤◌, List, length, refl, ◌∙◌, subst, get_or}
 use Rattle.lara_data.specs.declared.script.Statement.{Statement}
 use Rattle.lara_data.specs.TypedScripts.{ScriptTyped}
-use Rattle.lara_assoc.proofs.RunFacts.{run_begins, can_run, run_more, run_counts, run_ends}
+use Rattle.lara_assoc.proofs.RunningFacts.{run_begins, can_run, run_more, run_counts, run_ends}
 use Rattle.lara_assoc.proofs.scripts.eval.Goals as goal
 
 pub loop-statement-init : goal.loop-statement-init

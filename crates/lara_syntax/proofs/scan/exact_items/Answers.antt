@@ -1,6 +1,6 @@
 -- At the end, and where no token stands.
 use Rattle.std.proofs.Common.{length, subst}
-use Rattle.lara_syntax.specs.ScannedSteps.{GivesStep}
+use Rattle.lara_syntax.specs.TokenWords.{GivesStep}
 use Rattle.lara_syntax.proofs.ItemLaws.{all_items, stop_at-end}
 use Rattle.lara_syntax.proofs.scan.exact_items.Goals as goal
 

@@ -3,7 +3,7 @@ use Rattle.lara_key.specs.declared.key.KeyVal.{KeyVal}
 use Rattle.std.proofs.lemmas.Result.{err_from_is_err_and}
 use Rattle.lara_types.specs.LiteralEntries.{one_more_entry}
 use Rattle.lara_data.specs.TableTypes.{types}
-use Rattle.lara_types.proofs.Walks.{walk-none, walk-more, walk-stops}
+use Rattle.lara_types.proofs.WalkFacts.{walk-none, walk-more, walk-stops}
 use Rattle.lara_types.proofs.ColumnNames.{fault_through}
 use Rattle.lara_data.specs.KeyedTypes.{all_have_none, all_have_push}
 use Rattle.lara_types.proofs.EntryValues.{one_more_entry-ok, one_more_entry-err}

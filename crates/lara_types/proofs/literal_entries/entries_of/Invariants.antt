@@ -1,5 +1,5 @@
 use Rattle.std.proofs.Common.{◌≡◌, [], take, Ok, true}
-use Rattle.lara_types.specs.Steps.{walk}
+use Rattle.lara_types.specs.Walks.{walk}
 use Rattle.lara_data.specs.KeyedTables.{all_have}
 use Rattle.lara_data.specs.TableTypes.{types}
 use Rattle.lara_types.specs.LiteralEntries.{one_more_entry}

@@ -1,5 +1,5 @@
 use Rattle.std.proofs.Common.{◌≡◌, [], ◌++◌, map, take, Ok}
-use Rattle.lara_types.specs.Steps.{walk}
+use Rattle.lara_types.specs.Walks.{walk}
 use Rattle.lara_types.specs.LiteralTypes.{one_more_key, one_more_val, key_col_name, val_col_name}
 use Rattle.lara_types.specs.Seen.{Holds}
 use Rattle.lara_types.proofs.literal_types.check_names.Given as goal

@@ -1,6 +1,6 @@
 use Rattle.std.proofs.Common.{◌≡◌, take, Ok}
 use Rattle.lara_types.specs.Checks.{at_start, one_more}
-use Rattle.lara_types.specs.Steps.{walk}
+use Rattle.lara_types.specs.Walks.{walk}
 use Rattle.lara_types.proofs.scripts.statements_of.Given as goal
 
 -- the statements so far, and what is known behind them

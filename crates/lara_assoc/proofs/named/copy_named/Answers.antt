@@ -1,7 +1,0 @@
-use Rattle.std.proofs.Common.{refl}
-use Rattle.lara_data.specs.KeyedTables.{all_have}
-use Rattle.lara_assoc.proofs.named.copy_named.Goals as goal
-
-pub total-requires : goal.total-requires
-unfolding all_have
-total-requires c = rw c.new.ensures refl

@@ -1,0 +1,26 @@
+-- What holds no name, no text and no other expression, so that to copy it takes no memory.
+use Rattle.std.specs.Prelude.{Bool, true, false}
+use Rattle.lara_syntax.specs.declared.ast.AstValue.{AstValue}
+use Rattle.lara_syntax.specs.declared.ast.AstValue.TheVariants as value
+use Rattle.lara_syntax.specs.declared.ast_expr.AstForm.{AstForm}
+use Rattle.lara_syntax.specs.declared.ast_expr.AstForm.TheVariants as form
+use Rattle.lara_syntax.specs.declared.token.TokenWord.{TokenWord}
+use Rattle.lara_syntax.specs.declared.token.TokenWord.TheVariants as word
+
+-- a value that is no text
+abbrev pub is_plain_value : AstValue → Bool
+is_plain_value (value.Text content) = false
+is_plain_value v = true
+
+-- a number, a flag, `inf` or `none`
+abbrev pub is_atom : AstForm → Bool
+is_atom (form.Number n) = true
+is_atom (form.Flag b) = true
+is_atom form.Inf = true
+is_atom form.None = true
+is_atom f = false
+
+-- a token that is no text
+abbrev pub is_plain_word : TokenWord → Bool
+is_plain_word (word.Text content) = false
+is_plain_word w = true
