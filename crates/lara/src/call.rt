@@ -1,5 +1,5 @@
 //! The top call for words that may have found no memory.
-ghost use Rattle.std.specs.Prelude.{IsOk, IsErr, ◌≡◌, ◌⊎◌, ℕ, List, Some, Ok, IfOk};
+ghost use Rattle.std.specs.Prelude.{IsOk, IsErr, ◌≡◌, ◌≤◌, ◌⊎◌, ℕ, List, Some, Ok, IfOk};
 ghost use Rattle.std.specs.Io.KnownBytes.{IsAtEnd};
 ghost use Rattle.lara_base.specs.Causes.{Rose};
 ghost use Rattle.lara_base.specs.Moves.{Adds, AddsFront, ReadsWithin};
@@ -38,7 +38,7 @@ pub fn call<S: Source, O: Sink, E: Sink>(
     ensures done_line { result ≡ Outcome.Done → err.new ≡ err.old }
     ensures reads_most { ReadsWithin (S.left input.old) (S.left input.new) 1048577 }
     ensures unread { IfOk words (λ words. ¬ (ReadsInput (command_of words)) → input.new ≡ input.old) }
-    ensures other_nothing { Quiet (O.held out.new ≡ O.held out.old) result }
+    ensures other_nothing { Quiet (out.new ≡ out.old) result }
     ensures other_front { (bytes : List ℕ) → S.left input.old ≡ Some bytes → IfOk words (λ words. AddsFront (O.held out.old) (O.held out.new) (text_of (ruling (handed ⟦<dyn Plugin as Plugin>⟧ plugins.now.items) words bytes))) }
     ensures other_line { AddsFront (E.held err.old) (E.held err.new) (line_of result) }
     ensures other_whole_line { ¬ (Rose (E.faults err.old) (E.faults err.new)) → Adds (E.held err.old) (E.held err.new) (line_of result) }
@@ -46,6 +46,9 @@ pub fn call<S: Source, O: Sink, E: Sink>(
     ensures usage { IfOk words (λ words. UsageExactly (command_of words) result) }
     ensures script { (bytes : List ℕ) (at : ℕ) (kind : Kind) → S.left input.old ≡ Some bytes → IfOk words (λ words. Exactly (ruling (handed ⟦<dyn Plugin as Plugin>⟧ plugins.now.items) words bytes) (Outcome.Script at kind) result) }
     ensures range { (bytes : List ℕ) (statement : ℕ) → S.left input.old ≡ Some bytes → IfOk words (λ words. Exactly (ruling (handed ⟦<dyn Plugin as Plugin>⟧ plugins.now.items) words bytes) (Outcome.Range statement) result) }
+    ensures later_input { S.faults input.old ≤ S.faults input.new }
+    ensures later_out { O.faults out.old ≤ O.faults out.new }
+    ensures later_err { E.faults err.old ≤ E.faults err.new }
     ensures source_fault { result ≡ Outcome.SourceFault → Rose (S.faults input.old) (S.faults input.new) }
     ensures sink_fault { result ≡ Outcome.SinkFault → Rose (O.faults out.old) (O.faults out.new) }
     ensures complete { (bytes : List ℕ) → S.left input.old ≡ Some bytes → IfOk words (λ words. IsOk (ruling (handed ⟦<dyn Plugin as Plugin>⟧ plugins.now.items) words bytes) → ¬ (Rose (S.faults input.old) (S.faults input.new)) → ¬ (Rose (O.faults out.old) (O.faults out.new)) → (result ≡ Outcome.Done) ⊎ (result ≡ Outcome.Memory)) }

@@ -160,6 +160,7 @@ fn line(outcome: Outcome) -> Line
 pub fn report<E: Sink>(err: &mut E, outcome: Outcome)
     ensures part { AddsFront (E.held err.old) (E.held err.new) (line_of outcome) }
     ensures whole { ¬ (Rose (E.faults err.old) (E.faults err.new)) → Adds (E.held err.old) (E.held err.new) (line_of outcome) }
+    ensures later { E.faults err.old ≤ E.faults err.new }
 {
     let line = line(outcome);
     let _ = write_whole(err, line.bytes());

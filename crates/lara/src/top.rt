@@ -96,9 +96,11 @@ fn run<S: Source, O: Sink>(
     ensures most { ReadsWithin (S.left input.old) (S.left input.new) 1048577 }
     ensures end { result ≡ Outcome.Done → ReadsInput (command_of words.now) → IsAtEnd (S.left input.new) }
     ensures unread { ¬ (ReadsInput (command_of words.now)) → input.new ≡ input.old }
-    ensures quiet { Quiet (O.held out.new ≡ O.held out.old) result }
+    ensures quiet { Quiet (out.new ≡ out.old) result }
     ensures front { (bytes : List ℕ) → S.left input.old ≡ Some bytes → AddsFront (O.held out.old) (O.held out.new) (text_of (ruling (handed ⟦<dyn Plugin as Plugin>⟧ plugins.now.items) words.now bytes)) }
     ensures whole { (bytes : List ℕ) → S.left input.old ≡ Some bytes → result ≡ Outcome.Done → Adds (O.held out.old) (O.held out.new) (text_of (ruling (handed ⟦<dyn Plugin as Plugin>⟧ plugins.now.items) words.now bytes)) }
+    ensures later_input { S.faults input.old ≤ S.faults input.new }
+    ensures later_out { O.faults out.old ≤ O.faults out.new }
 {
     match text_to_write(alloc, words, input, plugins) {
         Ok(text) => match write_whole(out, text.as_slice()) {
@@ -129,8 +131,8 @@ pub fn lara<S: Source, O: Sink, E: Sink>(
     ensures reads_most { ReadsWithin (S.left input.old) (S.left input.new) 1048577 }
     ensures unread { ¬ (ReadsInput (command_of words.now)) → input.new ≡ input.old }
 
-    // Any other outcome: `out` has nothing, or a front of the text where the writing itself ended the run.
-    ensures other_nothing { Quiet (O.held out.new ≡ O.held out.old) result }
+    // Any other outcome: `out` is as it was, or has a front of the text where the writing itself ended the run.
+    ensures other_nothing { Quiet (out.new ≡ out.old) result }
     ensures other_front { (bytes : List ℕ) → S.left input.old ≡ Some bytes → AddsFront (O.held out.old) (O.held out.new) (text_of (ruling (handed ⟦<dyn Plugin as Plugin>⟧ plugins.now.items) words.now bytes)) }
     ensures other_line { AddsFront (E.held err.old) (E.held err.new) (line_of result) }
     ensures other_whole_line { ¬ (Rose (E.faults err.old) (E.faults err.new)) → Adds (E.held err.old) (E.held err.new) (line_of result) }
@@ -142,6 +144,11 @@ pub fn lara<S: Source, O: Sink, E: Sink>(
     ensures range { (bytes : List ℕ) (statement : ℕ) → S.left input.old ≡ Some bytes → Exactly (ruling (handed ⟦<dyn Plugin as Plugin>⟧ plugins.now.items) words.now bytes) (Outcome.Range statement) result }
     ensures source_fault { result ≡ Outcome.SourceFault → Rose (S.faults input.old) (S.faults input.new) }
     ensures sink_fault { result ≡ Outcome.SinkFault → Rose (O.faults out.old) (O.faults out.new) }
+
+    // No count of faults falls.
+    ensures later_input { S.faults input.old ≤ S.faults input.new }
+    ensures later_out { O.faults out.old ≤ O.faults out.new }
+    ensures later_err { E.faults err.old ≤ E.faults err.new }
 
     // Where nothing stands in the way, the run is done.
     ensures complete { (bytes : List ℕ) → S.left input.old ≡ Some bytes → IsOk (ruling (handed ⟦<dyn Plugin as Plugin>⟧ plugins.now.items) words.now bytes) → ¬ (Rose (S.faults input.old) (S.faults input.new)) → ¬ (Rose (O.faults out.old) (O.faults out.new)) → (result ≡ Outcome.Done) ⊎ (result ≡ Outcome.Memory) }

@@ -20,7 +20,7 @@ pub record NamedTable : Type 0 where
   pub name : Name
   pub table : Table
 
--- the stored tables; no two have one name
+-- the stored tables. Where a name stands twice, the later table is meant; where scripts are checked, no two have one name.
 abbrev pub Database : Type 0
 Database = List NamedTable
 

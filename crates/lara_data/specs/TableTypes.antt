@@ -4,7 +4,6 @@ use Rattle.std.specs.List.{list_any}
 use Rattle.std.specs.Str.{bytes_eq}
 use Rattle.lara_key.specs.declared.key.KeyType.{KeyType}
 use Rattle.lara_semiring.specs.declared.value.ValType.{ValType}
-use Rattle.lara_data.specs.declared.limits.TheConstants.{MAX_COLS}
 use Rattle.lara_data.specs.declared.table_type.KeyCol.{KeyCol}
 use Rattle.lara_data.specs.declared.table_type.ValCol.{ValCol}
 
@@ -43,9 +42,13 @@ abbrev pub are_distinct : List KeyCol → List ValCol → Bool
 are_distinct [] vals = are_vals_distinct vals
 are_distinct (k ∷ ks) vals = not (has_key k.name ks) && not (has_val k.name vals) && are_distinct ks vals
 
--- at most MAX_COLS key columns, 1 to MAX_COLS value columns, and distinct names
+-- how many key columns, and how many value columns, a table may have
+abbrev pub most_columns : ℕ
+most_columns = 8
+
+-- few enough key columns, 1 to as many value columns, and distinct names
 unfoldable pub are_columns : List KeyCol → List ValCol → Bool
-are_columns keys vals = nat_lt (length keys) (MAX_COLS + 1) && nat_lt 0 (length vals) && nat_lt (length vals) (MAX_COLS + 1) && are_distinct keys vals
+are_columns keys vals = nat_lt (length keys) (most_columns + 1) && nat_lt 0 (length vals) && nat_lt (length vals) (most_columns + 1) && are_distinct keys vals
 
 -- the type with these columns, where there is one
 abbrev pub typed_columns : List KeyCol → List ValCol → Option Columns

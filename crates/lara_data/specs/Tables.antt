@@ -21,7 +21,8 @@ Entry = Keyed Tuple
 abbrev pub Entries : Type 0
 Entries = List Entry
 
--- named columns, and the entries: each key once, in rising order, with a row that is not default
+-- Named columns, and entries. A table of the kernel is one that `total` makes: each key once, in rising order, with a row
+-- that is not default (IsTypedTable says so).
 pub record Table : Type 0 where
   pub ty : Columns
   pub entries : Entries

@@ -2,12 +2,11 @@
 use Rattle.std.specs.Prelude.{Bool, true, ◌&&◌, ◌||◌, not, nat_lt, if◌then◌else◌, List, length, Result, Ok, Err}
 use Rattle.std.specs.List.{list_any}
 use Rattle.lara_key.specs.Keys.{same_key_type}
-use Rattle.lara_data.specs.declared.limits.TheConstants.{MAX_COLS}
 use Rattle.lara_data.specs.declared.refusal.Kind.{Kind}
 use Rattle.lara_data.specs.declared.refusal.Kind.TheVariants.{NameTwice, TooManyColumns, TypesDiffer, NoCommonValue, NotAKey}
 use Rattle.lara_data.specs.declared.table_type.KeyCol.{KeyCol}
 use Rattle.lara_data.specs.declared.table_type.ValCol.{ValCol}
-use Rattle.lara_data.specs.TableTypes.{Columns, key_names, has_key, has_val}
+use Rattle.lara_data.specs.TableTypes.{Columns, key_names, has_key, has_val, most_columns}
 use Rattle.lara_data.specs.Names.{Name, same_name, among, distinct}
 use Rattle.lara_semiring.specs.Values.{same_val_type}
 use Rattle.lara_data.specs.Vals.{Vals}
@@ -43,7 +42,7 @@ is_none vs = not (nat_lt 0 (length vs))
 
 -- more key columns or more value columns than a table may have
 unfoldable pub too_many : Columns → Bool
-too_many c = nat_lt MAX_COLS (length c.keys) || nat_lt MAX_COLS (length c.vals)
+too_many c = nat_lt most_columns (length c.keys) || nat_lt most_columns (length c.vals)
 
 -- the columns, unless there are more than a table may have
 abbrev pub few_enough : Columns → Typing

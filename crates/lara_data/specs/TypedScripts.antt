@@ -8,7 +8,8 @@ use Rattle.lara_data.specs.TableTypes.{Columns, key_names}
 use Rattle.lara_data.specs.Names.{Name, has}
 use Rattle.lara_data.specs.TypedTrees.{type_named, IsTyped}
 
--- the order has each key column once
+-- The order has as many names as there are key columns, and each key column among them: where no two key columns have one
+-- name, as in each table type, it has each once.
 unfoldable pub is_order : List Name → List Name → Bool
 is_order order keys = length order == length keys && list_all (has order) keys
 

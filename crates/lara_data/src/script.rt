@@ -1,5 +1,5 @@
 //! Scripts: statements whose trees are typed.
-ghost use Rattle.std.specs.Prelude.{◌≡◌, IfOk};
+ghost use Rattle.std.specs.Prelude.{◌≡◌, [], IsOk, IfOk};
 
 use crate::node::Node;
 use crate::order::Order;
@@ -55,7 +55,10 @@ impl Copied for Statement {
 }
 
 impl Copied for Script {
-    fn copy(&self, alloc: Global) -> Result<Script, AllocError> {
+    fn copy(&self, alloc: Global) -> Result<Script, AllocError>
+        ensures same { IfOk result (λ r. r ≡ self.now) }
+        ensures empty { self.now ≡ [] → IsOk result }
+    {
         Ok(Script {
             statements: self.statements.copy(alloc)?,
         })

@@ -1,13 +1,12 @@
 //! The types of cells, without names.
-ghost use Rattle.std.specs.Prelude.{◌≡◌, IfOk, IsOk};
+ghost use Rattle.std.specs.Prelude.{◌≡◌, [], IfOk, IsOk};
 
 use lara_base::{Copied, List};
 use lara_key::KeyType;
 use lara_semiring::ValType;
 use std::alloc::{AllocError, Global};
 
-/// The types of the columns of a cell. A key is of the shape where it is the code of a tuple of the key types, and a
-/// cell where its key is so and its row has the value types.
+/// The types of the columns of a cell, keys and values each in their sequence.
 #[derive(Drop)]
 pub struct Shape {
     pub keys: List<KeyType>,
@@ -21,8 +20,8 @@ pub struct ColPair {
     pub right: u32,
 }
 
-/// The shapes of both sides of a join, how many key columns they have in common, which stand first on both sides, and
-/// the places of their common value columns in left order.
+/// The shapes of both sides of a join, how many key columns they have in common, and the places of their common value
+/// columns in left order. Who makes one puts the common key columns first on both sides; the type does not see to it.
 #[derive(Drop)]
 pub struct JoinShape {
     pub left: Shape,
@@ -32,7 +31,10 @@ pub struct JoinShape {
 }
 
 impl Copied for Shape {
-    fn copy(&self, alloc: Global) -> Result<Shape, AllocError> {
+    fn copy(&self, alloc: Global) -> Result<Shape, AllocError>
+        ensures same { IfOk result (λ r. r ≡ self.now) }
+        ensures empty { self.now.keys ≡ [] → self.now.vals ≡ [] → IsOk result }
+    {
         Ok(Shape {
             keys: self.keys.copy(alloc)?,
             vals: self.vals.copy(alloc)?,

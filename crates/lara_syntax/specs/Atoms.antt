@@ -1,9 +1,12 @@
 -- What holds no name, no text and no other expression, so that to copy it takes no memory.
 use Rattle.std.specs.Prelude.{Bool, true, false}
+use Rattle.lara_syntax.specs.declared.ast.AstLit.{AstLit}
 use Rattle.lara_syntax.specs.declared.ast.AstValue.{AstValue}
 use Rattle.lara_syntax.specs.declared.ast.AstValue.TheVariants as value
 use Rattle.lara_syntax.specs.declared.ast_expr.AstForm.{AstForm}
 use Rattle.lara_syntax.specs.declared.ast_expr.AstForm.TheVariants as form
+use Rattle.lara_syntax.specs.declared.ast_part.AstArg.{AstArg}
+use Rattle.lara_syntax.specs.declared.ast_part.AstArg.TheVariants as arg
 use Rattle.lara_syntax.specs.declared.token.TokenWord.{TokenWord}
 use Rattle.lara_syntax.specs.declared.token.TokenWord.TheVariants as word
 
@@ -11,6 +14,11 @@ use Rattle.lara_syntax.specs.declared.token.TokenWord.TheVariants as word
 abbrev pub is_plain_value : AstValue → Bool
 is_plain_value (value.Text content) = false
 is_plain_value v = true
+
+-- a value that is no text, not a column
+abbrev pub is_plain_arg : AstArg → Bool
+is_plain_arg (arg.Literal lit) = is_plain_value lit.value
+is_plain_arg (arg.Column name) = false
 
 -- a number, a flag, `inf` or `none`
 abbrev pub is_atom : AstForm → Bool

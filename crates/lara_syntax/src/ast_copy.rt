@@ -1,5 +1,5 @@
 //! Copies of the tree, node by node.
-ghost use Rattle.std.specs.Prelude.{◌≡◌, IfOk, IsOk, IsTrue};
+ghost use Rattle.std.specs.Prelude.{◌≡◌, [], IfOk, IsOk, IsTrue};
 ghost use Rattle.lara_syntax.specs.Atoms.{is_plain_value};
 
 use crate::ast::{
@@ -10,7 +10,10 @@ use lara_base::{Boxed, Copied};
 use std::alloc::{AllocError, Global};
 
 impl Copied for Ast {
-    fn copy(&self, alloc: Global) -> Result<Ast, AllocError> {
+    fn copy(&self, alloc: Global) -> Result<Ast, AllocError>
+        ensures same { IfOk result (λ r. r ≡ self.now) }
+        ensures empty { self.now.statements ≡ [] → IsOk result }
+    {
         Ok(Ast {
             statements: self.statements.copy(alloc)?,
         })
@@ -27,7 +30,10 @@ impl Copied for AstName {
 }
 
 impl Copied for AstBy {
-    fn copy(&self, alloc: Global) -> Result<AstBy, AllocError> {
+    fn copy(&self, alloc: Global) -> Result<AstBy, AllocError>
+        ensures same { IfOk result (λ r. r ≡ self.now) }
+        ensures empty { self.now.names ≡ [] → IsOk result }
+    {
         Ok(AstBy {
             at: self.at,
             names: self.names.copy(alloc)?,
@@ -140,7 +146,10 @@ impl Copied for AstType {
 }
 
 impl Copied for AstEntry {
-    fn copy(&self, alloc: Global) -> Result<AstEntry, AllocError> {
+    fn copy(&self, alloc: Global) -> Result<AstEntry, AllocError>
+        ensures same { IfOk result (λ r. r ≡ self.now) }
+        ensures empty { self.now.key ≡ [] → self.now.row ≡ [] → IsOk result }
+    {
         Ok(AstEntry {
             at: self.at,
             key: self.key.copy(alloc)?,

@@ -1,6 +1,6 @@
 //! Copies of expressions and of what holds them.
 ghost use Rattle.std.specs.Prelude.{◌≡◌, IfOk, IsOk, IsTrue};
-ghost use Rattle.lara_syntax.specs.Atoms.{is_atom};
+ghost use Rattle.lara_syntax.specs.Atoms.{is_atom, is_plain_arg};
 
 use crate::ast_expr::{AstExpr, AstForm};
 use crate::ast_part::{AstArg, AstCall, AstDef, AstKeyDef, AstPair};
@@ -9,7 +9,10 @@ use std::alloc::{AllocError, Global};
 
 impl Copied for AstExpr {
     #[cycle(copy_expr)]
-    fn copy(&self, alloc: Global) -> Result<AstExpr, AllocError> {
+    fn copy(&self, alloc: Global) -> Result<AstExpr, AllocError>
+        ensures same { IfOk result (λ r. r ≡ self.now) }
+        ensures exact { IsTrue (is_atom self.now.form) → IsOk result }
+    {
         Ok(AstExpr {
             at: self.at,
             form: self.form.copy(alloc)?,
@@ -86,7 +89,10 @@ impl Copied for AstCall {
 }
 
 impl Copied for AstArg {
-    fn copy(&self, alloc: Global) -> Result<AstArg, AllocError> {
+    fn copy(&self, alloc: Global) -> Result<AstArg, AllocError>
+        ensures same { IfOk result (λ r. r ≡ self.now) }
+        ensures exact { IsTrue (is_plain_arg self.now) → IsOk result }
+    {
         match self {
             AstArg::Column(name) => Ok(AstArg::Column(name.copy(alloc)?)),
             AstArg::Literal(lit) => Ok(AstArg::Literal(lit.copy(alloc)?)),

@@ -1,5 +1,5 @@
 //! The tokens of a script, for those who show scripts.
-ghost use Rattle.std.specs.Prelude.{◌≡◌, ◌≤◌, length, map, IfOk, IsOk, IsTrue};
+ghost use Rattle.std.specs.Prelude.{◌≡◌, ◌≤◌, [], length, map, IfOk, IsOk, IsTrue};
 ghost use Rattle.lara_syntax.specs.Atoms.{is_plain_word};
 ghost use Rattle.lara_syntax.specs.Tokens.{items_of, stop_of};
 ghost use Rattle.lara_syntax.specs.TokenLists.{token_of, Show, ShowAll};
@@ -60,7 +60,10 @@ impl Copied for TokenWord {
 }
 
 impl Copied for Token {
-    fn copy(&self, alloc: Global) -> Result<Self, AllocError> {
+    fn copy(&self, alloc: Global) -> Result<Self, AllocError>
+        ensures same { IfOk result (λ r. r ≡ self.now) }
+        ensures exact { IsTrue (is_plain_word self.now.word) → IsOk result }
+    {
         Ok(Token {
             at: self.at,
             len: self.len,
@@ -70,7 +73,10 @@ impl Copied for Token {
 }
 
 impl Copied for TokenList {
-    fn copy(&self, alloc: Global) -> Result<Self, AllocError> {
+    fn copy(&self, alloc: Global) -> Result<Self, AllocError>
+        ensures same { IfOk result (λ r. r ≡ self.now) }
+        ensures empty { self.now.list ≡ [] → IsOk result }
+    {
         Ok(TokenList {
             list: self.list.copy(alloc)?,
             stopped: self.stopped,

@@ -1,6 +1,8 @@
 //! The types of joins, unions and aggs: the columns of the result, or the kind of the first rule that is broken.
-ghost use Rattle.std.specs.Prelude.{◌≡◌, IfOk};
-ghost use Rattle.lara_data.specs.TypeRules.{is_none, too_many, join_type, union_type, agg_type};
+ghost use Rattle.std.specs.Prelude.{◌≡◌, ◌&&◌, not, IfOk, IsOk, IsTrue};
+ghost use Rattle.lara_data.specs.Names.{among, distinct};
+ghost use Rattle.lara_data.specs.TableTypes.{key_names};
+ghost use Rattle.lara_data.specs.TypeRules.{types_differ, is_none, too_many, join_type, union_type, agg_type};
 
 use crate::differ::types_differ;
 use crate::named::{are_distinct, are_key_names};
@@ -30,7 +32,8 @@ fn is_none(vals: &List<ValCol>) -> bool
 /// Of a join: names of two kinds first, then that there is no common value column, then too many columns.
 #[tactic(auto, unfolding(lara_data::specs::TypeRules::join_type))]
 pub fn type_join(alloc: Global, a: &TableType, b: &TableType) -> Typed
-    ensures { IfOk result (λ r. r ≡ join_type a.now b.now) }
+    ensures answer { IfOk result (λ r. r ≡ join_type a.now b.now) }
+    ensures sure { IsTrue (types_differ a.now b.now) → IsOk result }
 {
     if types_differ(a, b) {
         return Ok(Err(Kind::TypesDiffer));
@@ -49,7 +52,8 @@ pub fn type_join(alloc: Global, a: &TableType, b: &TableType) -> Typed
 /// Of a union: names of two kinds first, then too many columns.
 #[tactic(auto, unfolding(lara_data::specs::TypeRules::union_type))]
 pub fn type_union(alloc: Global, a: &TableType, b: &TableType) -> Typed
-    ensures { IfOk result (λ r. r ≡ union_type a.now b.now) }
+    ensures answer { IfOk result (λ r. r ≡ union_type a.now b.now) }
+    ensures sure { IsTrue (types_differ a.now b.now) → IsOk result }
 {
     if types_differ(a, b) {
         return Ok(Err(Kind::TypesDiffer));
@@ -65,7 +69,8 @@ pub fn type_union(alloc: Global, a: &TableType, b: &TableType) -> Typed
 /// Of an agg: a name that is no key column's first, then a name that stands twice.
 #[tactic(auto, unfolding(lara_data::specs::TypeRules::agg_type))]
 pub fn type_agg(alloc: Global, a: &TableType, keys: &List<Name>) -> Typed
-    ensures { IfOk result (λ r. r ≡ agg_type a.now keys.now) }
+    ensures answer { IfOk result (λ r. r ≡ agg_type a.now keys.now) }
+    ensures sure { IsTrue (not (among (key_names a.now.keys) keys.now && distinct keys.now)) → IsOk result }
 {
     if !are_key_names(a.keys.as_slice(), keys.as_slice()) {
         return Ok(Err(Kind::NotAKey));

@@ -2,4 +2,4 @@ use Rattle.lara_types.proofs.ColumnFacts.{joined}
 use Rattle.lara_types.proofs.rules.type_join.Goals as goal
 
 pub invariant_of-result : goal.invariant_of-result
-invariant_of-result c = joined (record { keys = c.a.inside.keys; vals = c.a.inside.vals }) (record { keys = c.b.inside.keys; vals = c.b.inside.vals }) _ _ c.in_ok-keys.ensures c.in_ok-vals.ensures c.a.invariant c.b.invariant c.if-is_none.ensures c.if-is_too_many.ensures
+invariant_of-result c = joined (record { keys = c.a.inside.keys; vals = c.a.inside.vals }) (record { keys = c.b.inside.keys; vals = c.b.inside.vals }) _ _ c.in_ok-keys.ensures.columns c.in_ok-vals.ensures.columns c.a.invariant c.b.invariant c.if-is_none.ensures c.if-is_too_many.ensures

@@ -13,10 +13,10 @@ abbrev of_map : BTreeMap Tuple Row → Entries
 of_map map = of_pairs map.entries
 
 pub invariant_of-result : goal.invariant_of-result
-invariant_of-result c = held_typed c.args.ty.now c.in_ok-copy.field-0 c.in_ok-tys.tys c.args.entries.now (of_pairs c.in_ok-new.field-0.value.entries) c.in_ok-copy.ensures (c.in_ok-tys.ensures ∙ ap (λ (t : Columns). types t.vals) c.ty.view_is) (ap of_map c.in_ok-new.ensures.ok ∙ c.in_ok-rows.ensures) c.requires
+invariant_of-result c = held_typed c.args.ty.now c.in_ok-copy.field-0 c.in_ok-tys.tys c.args.entries.now (of_pairs c.in_ok-new.field-0.value.entries) c.in_ok-copy.ensures (c.in_ok-tys.ensures.types ∙ ap (λ (t : Columns). types t.vals) c.ty.view_is) (ap of_map c.in_ok-new.ensures.ok ∙ c.in_ok-rows.ensures) c.requires
 
 pub returns-clause-table : goal.returns-clause-table
-returns-clause-table c = table_is c.args.ty.now c.in_ok-copy.field-0 c.in_ok-tys.tys c.args.entries.now (of_pairs c.in_ok-new.field-0.value.entries) c.in_ok-copy.ensures (c.in_ok-tys.ensures ∙ ap (λ (t : Columns). types t.vals) c.ty.view_is) (ap of_map c.in_ok-new.ensures.ok ∙ c.in_ok-rows.ensures)
+returns-clause-table c = table_is c.args.ty.now c.in_ok-copy.field-0 c.in_ok-tys.tys c.args.entries.now (of_pairs c.in_ok-new.field-0.value.entries) c.in_ok-copy.ensures (c.in_ok-tys.ensures.types ∙ ap (λ (t : Columns). types t.vals) c.ty.view_is) (ap of_map c.in_ok-new.ensures.ok ∙ c.in_ok-rows.ensures)
 
 pub returns-clause-any_order : goal.returns-clause-any_order
-returns-clause-any_order c others p = table_is c.args.ty.now c.in_ok-copy.field-0 c.in_ok-tys.tys c.args.entries.now (of_pairs c.in_ok-new.field-0.value.entries) c.in_ok-copy.ensures (c.in_ok-tys.ensures ∙ ap (λ (t : Columns). types t.vals) c.ty.view_is) (ap of_map c.in_ok-new.ensures.ok ∙ c.in_ok-rows.ensures) ∙ sym (table_of_permutation c.args.ty.now others c.args.entries.now p)
+returns-clause-any_order c others p = table_is c.args.ty.now c.in_ok-copy.field-0 c.in_ok-tys.tys c.args.entries.now (of_pairs c.in_ok-new.field-0.value.entries) c.in_ok-copy.ensures (c.in_ok-tys.ensures.types ∙ ap (λ (t : Columns). types t.vals) c.ty.view_is) (ap of_map c.in_ok-new.ensures.ok ∙ c.in_ok-rows.ensures) ∙ sym (table_of_permutation c.args.ty.now others c.args.entries.now p)
