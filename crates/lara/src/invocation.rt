@@ -23,7 +23,10 @@ pub struct SystemInvocation<R> {
 }
 
 impl<R> SystemInvocation<R> {
-    pub fn new(env: R) -> SystemInvocation<R> {
+    /// The arguments of this environment.
+    pub fn new(env: R) -> SystemInvocation<R>
+        ensures { result.env ≡ env }
+    {
         SystemInvocation { env }
     }
 }
