@@ -10,7 +10,6 @@ use std::alloc::{AllocError, Global};
 
 /// A table of this type.
 #[cycle(node)]
-#[derive(Drop)]
 pub struct Node {
     pub ty: TableType,
     pub op: Op,
@@ -18,7 +17,6 @@ pub struct Node {
 
 /// What makes a table. `Load` reads a stored table, `Named` one that the script assigned before.
 #[cycle(node)]
-#[derive(Drop)]
 pub enum Op {
     Load(Name),
     Named(Name),
@@ -31,6 +29,50 @@ pub enum Op {
     Promote(Boxed<Node>, KeyDef),
     Rename(Boxed<Node>, List<NamePair>),
     Apply(Boxed<Node>, Call),
+}
+
+impl Drop for Node {
+    #[cycle(drop_node)]
+    fn drop(self) {
+        let Node { ty: _ty, op: _op } = self;
+    }
+}
+
+impl Drop for Op {
+    #[cycle(drop_node)]
+    fn drop(self) {
+        match self {
+            Op::Load(_name) => {}
+            Op::Named(_name) => {}
+            Op::Literal(_entries) => {}
+            Op::Join(a, b) => {
+                let _a = a.into_inner();
+                let _b = b.into_inner();
+            }
+            Op::Union(a, b) => {
+                let _a = a.into_inner();
+                let _b = b.into_inner();
+            }
+            Op::Agg(a, _names) => {
+                let _a = a.into_inner();
+            }
+            Op::Map(a, _defs) => {
+                let _a = a.into_inner();
+            }
+            Op::Filter(a, _test) => {
+                let _a = a.into_inner();
+            }
+            Op::Promote(a, _def) => {
+                let _a = a.into_inner();
+            }
+            Op::Rename(a, _pairs) => {
+                let _a = a.into_inner();
+            }
+            Op::Apply(a, _call) => {
+                let _a = a.into_inner();
+            }
+        }
+    }
 }
 
 impl Copied for Node {

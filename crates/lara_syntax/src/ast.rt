@@ -48,7 +48,6 @@ pub enum AstStatement {
 }
 
 /// A table; `at` is its first token other than `(`.
-#[derive(Drop)]
 #[cycle(ast_node)]
 pub struct AstNode {
     pub at: u32,
@@ -56,7 +55,6 @@ pub struct AstNode {
 }
 
 /// What makes a table.
-#[derive(Drop)]
 #[cycle(ast_node)]
 pub enum AstOp {
     Load(AstName),
@@ -70,6 +68,50 @@ pub enum AstOp {
     Promote(Boxed<AstNode>, AstKeyDef),
     Rename(Boxed<AstNode>, List<AstPair>),
     Apply(Boxed<AstNode>, AstCall),
+}
+
+impl Drop for AstNode {
+    #[cycle(drop_node)]
+    fn drop(self) {
+        let AstNode { at: _at, op: _op } = self;
+    }
+}
+
+impl Drop for AstOp {
+    #[cycle(drop_node)]
+    fn drop(self) {
+        match self {
+            AstOp::Load(_name) => {}
+            AstOp::Named(_name) => {}
+            AstOp::Literal(_ty, _entries) => {}
+            AstOp::Join(a, b) => {
+                let _a = a.into_inner();
+                let _b = b.into_inner();
+            }
+            AstOp::Union(a, b) => {
+                let _a = a.into_inner();
+                let _b = b.into_inner();
+            }
+            AstOp::Agg(a, _names) => {
+                let _a = a.into_inner();
+            }
+            AstOp::Map(a, _defs) => {
+                let _a = a.into_inner();
+            }
+            AstOp::Filter(a, _test) => {
+                let _a = a.into_inner();
+            }
+            AstOp::Promote(a, _def) => {
+                let _a = a.into_inner();
+            }
+            AstOp::Rename(a, _pairs) => {
+                let _a = a.into_inner();
+            }
+            AstOp::Apply(a, _call) => {
+                let _a = a.into_inner();
+            }
+        }
+    }
 }
 
 /// A key column of a literal.
