@@ -13,7 +13,8 @@ use Rattle.lara_data.specs.Names.{Name}
 use Rattle.lara_data.specs.Tables.{Entries, table_of}
 use Rattle.lara_data.specs.Algebra.{join_tables, union_tables, agg_table}
 use Rattle.lara_data.specs.Plugins.{Plugins}
-use Rattle.lara_data.specs.Denotations.{NamedTable, Database, table_named, table_or_empty, ext, renamed, meaning, meaning_of}
+use Rattle.lara_data.specs.Denotations.{NamedTable, Database, table_named, table_or_empty, meaning, meaning_of}
+use Rattle.lara_data.specs.Extensions.{ext, renamed}
 
 pub meaning_Load : (ps : Plugins) (db : Database) (tables : List NamedTable) (n : Name) (ty : Columns) → meaning ps db tables (Load n) ty ≡ table_or_empty ty (table_named n db)
 unfolding meaning
@@ -39,23 +40,23 @@ pub meaning_Agg : (ps : Plugins) (db : Database) (tables : List NamedTable) (a :
 unfolding meaning Rattle.lara_data.specs.declared.node.Op.TheBlock.hidden-the_row-Node-0 denote.Hole.Carrier.hidden
 meaning_Agg ps db tables a ks ty = refl
 
-pub meaning_Map : (ps : Plugins) (db : Database) (tables : List NamedTable) (a : Node) (defs : List Def) (ty : Columns) → meaning ps db tables (Map a defs) ty ≡ ext ps ty (each.Map defs) (meaning_of ps db tables a)
+pub meaning_Map : (ps : Plugins) (db : Database) (tables : List NamedTable) (a : Node) (defs : List Def) (ty : Columns) → meaning ps db tables (Map a defs) ty ≡ ext ps (each.Map defs) (meaning_of ps db tables a)
 unfolding meaning Rattle.lara_data.specs.declared.node.Op.TheBlock.hidden-the_row-Node-0 denote.Hole.Carrier.hidden
 meaning_Map ps db tables a defs ty = refl
 
-pub meaning_Filter : (ps : Plugins) (db : Database) (tables : List NamedTable) (a : Node) (test : Expr) (ty : Columns) → meaning ps db tables (Filter a test) ty ≡ ext ps ty (each.Filter test) (meaning_of ps db tables a)
+pub meaning_Filter : (ps : Plugins) (db : Database) (tables : List NamedTable) (a : Node) (test : Expr) (ty : Columns) → meaning ps db tables (Filter a test) ty ≡ ext ps (each.Filter test) (meaning_of ps db tables a)
 unfolding meaning Rattle.lara_data.specs.declared.node.Op.TheBlock.hidden-the_row-Node-0 denote.Hole.Carrier.hidden
 meaning_Filter ps db tables a test ty = refl
 
-pub meaning_Promote : (ps : Plugins) (db : Database) (tables : List NamedTable) (a : Node) (def : KeyDef) (ty : Columns) → meaning ps db tables (Promote a def) ty ≡ ext ps ty (each.Promote def) (meaning_of ps db tables a)
+pub meaning_Promote : (ps : Plugins) (db : Database) (tables : List NamedTable) (a : Node) (def : KeyDef) (ty : Columns) → meaning ps db tables (Promote a def) ty ≡ ext ps (each.Promote def) (meaning_of ps db tables a)
 unfolding meaning Rattle.lara_data.specs.declared.node.Op.TheBlock.hidden-the_row-Node-0 denote.Hole.Carrier.hidden
 meaning_Promote ps db tables a def ty = refl
 
-pub meaning_Rename : (ps : Plugins) (db : Database) (tables : List NamedTable) (a : Node) (pairs : List NamePair) (ty : Columns) → meaning ps db tables (Rename a pairs) ty ≡ renamed ty (meaning_of ps db tables a)
+pub meaning_Rename : (ps : Plugins) (db : Database) (tables : List NamedTable) (a : Node) (pairs : List NamePair) (ty : Columns) → meaning ps db tables (Rename a pairs) ty ≡ renamed pairs (meaning_of ps db tables a)
 unfolding meaning Rattle.lara_data.specs.declared.node.Op.TheBlock.hidden-the_row-Node-0 denote.Hole.Carrier.hidden
 meaning_Rename ps db tables a pairs ty = refl
 
-pub meaning_Apply : (ps : Plugins) (db : Database) (tables : List NamedTable) (a : Node) (call : Call) (ty : Columns) → meaning ps db tables (Apply a call) ty ≡ ext ps ty (each.Apply call) (meaning_of ps db tables a)
+pub meaning_Apply : (ps : Plugins) (db : Database) (tables : List NamedTable) (a : Node) (call : Call) (ty : Columns) → meaning ps db tables (Apply a call) ty ≡ ext ps (each.Apply call) (meaning_of ps db tables a)
 unfolding meaning Rattle.lara_data.specs.declared.node.Op.TheBlock.hidden-the_row-Node-0 denote.Hole.Carrier.hidden
 meaning_Apply ps db tables a call ty = refl
 

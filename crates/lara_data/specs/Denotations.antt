@@ -1,26 +1,25 @@
 -- What a tree means, and what a script means: the tables that its names get, and what it prints and stores.
-use Rattle.std.specs.Prelude.{ℕ, ◌+◌, fold, List, [], ◌∷◌, ◌++◌, map, Option, Some, None, if◌then◌else◌}
-use Rattle.std.specs.List.{flat_map}
+use Rattle.std.specs.Prelude.{ℕ, ◌+◌, fold, List, [], ◌∷◌, ◌++◌, Option, Some, None, if◌then◌else◌}
 use Rattle.lara_data.specs.declared.node.Node.{Node}
 use Rattle.lara_data.specs.declared.node.Op.{Op}
 use Rattle.lara_data.specs.declared.node.Op.TheBlock.{end_of-Node, more_of-Node}
 use Rattle.lara_data.specs.declared.node.Op.TheVariants.{Load, Named, Literal, Join', Union', Agg', Map', Filter', Promote', Rename', Apply'}
-use Rattle.lara_data.specs.declared.order.EachOp.{EachOp}
 use Rattle.lara_data.specs.declared.order.EachOp.TheVariants as each
 use Rattle.lara_data.specs.declared.script.Statement.{Statement}
 use Rattle.lara_data.specs.declared.script.Statement.TheVariants.{Assign, Print, Store}
 use Rattle.lara_data.specs.TableTypes.{Columns}
-use Rattle.lara_data.specs.Names.{Name, Tuple, same_name}
-use Rattle.lara_data.specs.Tables.{Entry, Entries, Table, table_of}
+use Rattle.lara_data.specs.Names.{Name, same_name}
+use Rattle.lara_data.specs.Tables.{Table, table_of}
 use Rattle.lara_data.specs.Algebra.{join_tables, union_tables, agg_table}
-use Rattle.lara_data.specs.Plugins.{Plugins, apply_tuples}
+use Rattle.lara_data.specs.Plugins.{Plugins}
+use Rattle.lara_data.specs.Extensions.{ext, renamed}
 
 -- a name with its table
 pub record NamedTable : Type 0 where
   pub name : Name
   pub table : Table
 
--- the stored tables. Where a name stands twice, the later table is meant; where scripts are checked, no two have one name.
+-- the stored tables, in the rising order of their names; of two tables of one name, which no depot has, the later is meant
 abbrev pub Database : Type 0
 Database = List NamedTable
 
@@ -39,26 +38,6 @@ table_or_empty ty (Some table) = table
 
 -- ---- trees
 
--- the key followed by each of the tuples, with the same row
-abbrev pub with_tuples : Entry → List Tuple → Entries
-with_tuples e ts = map (λ t. record { key = e.key ++ t; row = e.row }) ts
-
--- What comes of an entry. Maps, filters and promotes, whose expressions have no meaning yet, give nothing: no typed
--- script has one.
-unfoldable pub of_each : Plugins → Columns → EachOp → Entry → Entries
-of_each ps ty (each.Map defs) e = []
-of_each ps ty (each.Filter test) e = []
-of_each ps ty (each.Promote def) e = []
-of_each ps ty (each.Apply call) e = with_tuples e (apply_tuples ps call.plugin ty call.args e.key)
-
--- the table, over the columns ty, of what comes of each entry of a table
-unfoldable pub ext : Plugins → Columns → EachOp → Table → Table
-ext ps ty op t = table_of ty (flat_map (of_each ps t.ty op) t.entries)
-
--- the same entries under other names
-abbrev pub renamed : Columns → Table → Table
-renamed ty t = record { ty = ty; entries = t.entries }
-
 -- the table of an operator, over the database and the tables that the script assigned so far
 unfoldable pub meaning : Plugins → Database → List NamedTable → Op → Columns → Table
 meaning ps db tables (Load n) ty = table_or_empty ty (table_named n db)
@@ -67,11 +46,11 @@ meaning ps db tables (Literal es) ty = table_of ty es
 meaning ps db tables (Join' _ (more_of-Node t a end_of-Node) _ (more_of-Node u b end_of-Node)) ty = join_tables (meaning ps db tables a t) (meaning ps db tables b u)
 meaning ps db tables (Union' _ (more_of-Node t a end_of-Node) _ (more_of-Node u b end_of-Node)) ty = union_tables (meaning ps db tables a t) (meaning ps db tables b u)
 meaning ps db tables (Agg' _ (more_of-Node t a end_of-Node) ks) ty = agg_table (meaning ps db tables a t) ks
-meaning ps db tables (Map' _ (more_of-Node t a end_of-Node) defs) ty = ext ps ty (each.Map defs) (meaning ps db tables a t)
-meaning ps db tables (Filter' _ (more_of-Node t a end_of-Node) test) ty = ext ps ty (each.Filter test) (meaning ps db tables a t)
-meaning ps db tables (Promote' _ (more_of-Node t a end_of-Node) def) ty = ext ps ty (each.Promote def) (meaning ps db tables a t)
-meaning ps db tables (Rename' _ (more_of-Node t a end_of-Node) pairs) ty = renamed ty (meaning ps db tables a t)
-meaning ps db tables (Apply' _ (more_of-Node t a end_of-Node) call) ty = ext ps ty (each.Apply call) (meaning ps db tables a t)
+meaning ps db tables (Map' _ (more_of-Node t a end_of-Node) defs) ty = ext ps (each.Map defs) (meaning ps db tables a t)
+meaning ps db tables (Filter' _ (more_of-Node t a end_of-Node) test) ty = ext ps (each.Filter test) (meaning ps db tables a t)
+meaning ps db tables (Promote' _ (more_of-Node t a end_of-Node) def) ty = ext ps (each.Promote def) (meaning ps db tables a t)
+meaning ps db tables (Rename' _ (more_of-Node t a end_of-Node) pairs) ty = renamed pairs (meaning ps db tables a t)
+meaning ps db tables (Apply' _ (more_of-Node t a end_of-Node) call) ty = ext ps (each.Apply call) (meaning ps db tables a t)
 
 -- the table of a tree
 abbrev pub meaning_of : Plugins → Database → List NamedTable → Node → Table
@@ -139,16 +118,3 @@ after_all ps db ss = fold (after ps db) before_all ss
 -- what a script over a database prints and stores
 unfoldable pub denotation : Plugins → Database → List Statement → Answers
 denotation ps db ss = let r = after_all ps db ss in record { prints = r.prints; stores = r.stores }
-
--- the database with the table under the name, in the place of a table of that name
-unfoldable pub with_table : Name → Table → Database → Database
-with_table n t [] = record { name = n; table = t } ∷ []
-with_table n t (d ∷ db) = if same_name n d.name then record { name = n; table = t } ∷ db else d ∷ with_table n t db
-
--- the database after one store
-abbrev pub after_store : Database → Stored → Database
-after_store db s = with_table s.name s.table db
-
--- the new database: each stored name has the table of its last store, every other one its table as before
-unfoldable pub after_stores : Database → List Stored → Database
-after_stores db stores = fold after_store db stores

@@ -7,10 +7,13 @@ pub mod AlgebraTyped
 pub mod Apart
 pub mod Atoms
 pub mod Builders
+pub mod ByteOrders
 pub mod Codes
+pub mod Databases
 pub mod Denotations
 pub mod DistinctColumns
 pub mod DistinctNames
+pub mod Extensions
 pub mod FirstColumns
 pub mod Fits
 pub mod Headings
