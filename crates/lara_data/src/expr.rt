@@ -32,7 +32,6 @@ pub enum FunOp {
 }
 
 /// An expression. `Inf` is the endless distance of `minplus`, `None` the absent path.
-#[derive(Drop)]
 pub enum Expr {
     Column(Name),
     Number(u64),
@@ -44,6 +43,34 @@ pub enum Expr {
     Not(Boxed<Expr>),
     If(Boxed<Expr>, Boxed<Expr>, Boxed<Expr>),
     Fun(FunOp, Boxed<Expr>),
+}
+
+impl Drop for Expr {
+    fn drop(self) {
+        match self {
+            Expr::Column(_name) => {}
+            Expr::Number(_n) => {}
+            Expr::Text(_text) => {}
+            Expr::Flag(_b) => {}
+            Expr::Inf => {}
+            Expr::None => {}
+            Expr::Two(_op, a, b) => {
+                let _a = a.into_inner();
+                let _b = b.into_inner();
+            }
+            Expr::Not(a) => {
+                let _a = a.into_inner();
+            }
+            Expr::If(c, a, b) => {
+                let _c = c.into_inner();
+                let _a = a.into_inner();
+                let _b = b.into_inner();
+            }
+            Expr::Fun(_f, a) => {
+                let _a = a.into_inner();
+            }
+        }
+    }
 }
 
 impl Copied for TwoOp {

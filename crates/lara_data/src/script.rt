@@ -9,11 +9,20 @@ use std::marker::Model;
 
 /// A statement. `Assign` names a table, `Print` names a table and the order of its key columns, and `Store` names a table
 /// and then the name that it gets in the database.
-#[derive(Drop)]
 pub enum Statement {
     Assign(Name, Node),
     Print(Name, Order),
     Store(Name, Name),
+}
+
+impl Drop for Statement {
+    fn drop(self) {
+        match self {
+            Statement::Assign(_name, _node) => {}
+            Statement::Print(_name, _order) => {}
+            Statement::Store(_old, _new) => {}
+        }
+    }
 }
 
 /// Statements in which every node has its type by the rules, every name was assigned before, and every order of a print

@@ -24,10 +24,18 @@ pub struct ValCol {
 }
 
 /// At most `MAX_COLS` key columns and 1 to `MAX_COLS` value columns, all names distinct.
-#[derive(Drop)]
 pub struct TableType {
     pub keys: List<KeyCol>,
     pub vals: List<ValCol>,
+}
+
+impl Drop for TableType {
+    fn drop(self) {
+        let TableType {
+            keys: _keys,
+            vals: _vals,
+        } = self;
+    }
 }
 
 impl Model for TableType {
