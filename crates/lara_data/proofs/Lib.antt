@@ -1,3 +1,5 @@
+mod WorkedColumns
+mod WorkedScripts
 mod WorkedTables
 pub mod ColumnNames
 pub mod FitEquations
