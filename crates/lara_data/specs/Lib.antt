@@ -28,9 +28,12 @@ pub mod KeyedTypes
 pub mod MapTables
 pub mod MeaningLaws
 pub mod Names
+pub mod OrderLaws
 pub mod Plugins
+pub mod RangeLaws
 pub mod ScriptLaws
 pub mod Sequences
+pub mod StatementNumbers
 pub mod Stored
 pub mod Supports
 pub mod TableTypes
