@@ -1,11 +1,11 @@
 -- The columns of a table's type are distinct.
-use Rattle.std.specs.Prelude.{◌≡◌, Bool, true, false, ◌&&◌, ◌||◌, not, List, [], ◌∷◌, length, nat_lt}
+use Rattle.std.specs.Prelude.{◌≡◌, ◌+◌, Bool, true, false, ◌&&◌, ◌||◌, not, List, [], ◌∷◌, length, nat_lt}
 use Rattle.std.proofs.Common.{refl, sym, ap, ◌∙◌}
 use Rattle.std.proofs.lemmas.Bool.{and_from, and_left, and_parts}
 use Rattle.std.specs.Str.{bytes_eq}
 use Rattle.lara_data.specs.declared.table_type.KeyCol.{KeyCol}
 use Rattle.lara_data.specs.declared.table_type.ValCol.{ValCol}
-use Rattle.lara_data.specs.TableTypes.{key_names, has_key, has_val, are_vals_distinct, are_distinct, are_columns}
+use Rattle.lara_data.specs.TableTypes.{key_names, has_key, has_val, are_vals_distinct, are_distinct, are_columns, most_columns}
 use Rattle.lara_data.specs.Names.{Name, same_name, has, distinct, not_true}
 use Rattle.lara_data.specs.Vals.{Vals, same_col, has_col}
 use Rattle.lara_data.specs.ValSets.{distinct_cols}
@@ -52,7 +52,7 @@ distinct_keys (k ∷ keys) vals h =
 
 of_columns : (keys : List KeyCol) (vals : Vals) → are_columns keys vals ≡ true → are_distinct keys vals ≡ true
 unfolding are_columns
-of_columns keys vals h = (and_parts (nat_lt (length keys) 9 && nat_lt 0 (length vals) && nat_lt (length vals) 9) (are_distinct keys vals) h).1
+of_columns keys vals h = (and_parts (nat_lt (length keys) (most_columns + 1) && nat_lt 0 (length vals) && nat_lt (length vals) (most_columns + 1)) (are_distinct keys vals) h).1
 
 -- the names of the key columns are distinct
 pub distinct_key_names : (keys : List KeyCol) (vals : Vals) → are_columns keys vals ≡ true → distinct (key_names keys) ≡ true

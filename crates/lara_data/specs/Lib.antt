@@ -29,12 +29,12 @@ pub mod MapTables
 pub mod MeaningLaws
 pub mod Names
 pub mod OrderLaws
+pub mod OtherSequences
 pub mod Plugins
 pub mod RangeLaws
 pub mod ScriptLaws
 pub mod Sequences
 pub mod StatementNumbers
-pub mod Stored
 pub mod Supports
 pub mod TableTypes
 pub mod Tables

@@ -35,10 +35,6 @@ table_of ty es = record { ty = ty; entries = total tuple_cmp (types ty.vals) es 
 unfoldable pub recut : List Name → List Name → Entries → Entries
 recut ns ms es = with_keys (cut ns ms) es
 
--- the entries with their key columns in the given order, rising
-unfoldable pub stored : Table → List Name → Entries
-stored t order = (table_of t.ty (recut (key_names t.ty.keys) order t.entries)).entries
-
 -- no key column and no value of the entry is beyond the range of its type
 abbrev pub is_entry_in_range : List ValType → Entry → Bool
 is_entry_in_range ts e = not (list_any key_is_over e.key) && not (row_is_over ts e.row)

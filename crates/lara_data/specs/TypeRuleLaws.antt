@@ -1,5 +1,5 @@
 -- The columns that the type rules give are a table's, and what the rules keep.
-use Rattle.std.specs.Prelude.{◌≡◌, ◌≤◌, ◌<◌, Bool, true, false, cond, ◌&&◌, ◌||◌, not, nat_lt, List, [], ◌∷◌, ◌++◌, length, filter, Ok, Err}
+use Rattle.std.specs.Prelude.{◌≡◌, ◌+◌, ◌≤◌, ◌<◌, Bool, true, false, cond, ◌&&◌, ◌||◌, not, nat_lt, List, [], ◌∷◌, ◌++◌, length, filter, Ok, Err}
 use Rattle.std.proofs.Common.{refl, sym, ap, ◌∙◌, arith, suc}
 use Rattle.std.specs.List.{list_any}
 use Rattle.std.specs.Str.{bytes_eq}
@@ -11,7 +11,7 @@ use Rattle.std.proofs.lemmas.Slice.Eq.{bytes_eq-Decides}
 use Rattle.lara_data.specs.declared.refusal.Kind.TheVariants.{NameTwice, TooManyColumns, TypesDiffer, NoCommonValue, NotAKey}
 use Rattle.lara_data.specs.declared.table_type.KeyCol.{KeyCol}
 use Rattle.lara_data.specs.declared.table_type.ValCol.{ValCol}
-use Rattle.lara_data.specs.TableTypes.{Columns, key_names, has_key, has_val, are_vals_distinct, are_distinct, are_columns}
+use Rattle.lara_data.specs.TableTypes.{Columns, key_names, has_key, has_val, are_vals_distinct, are_distinct, are_columns, most_columns}
 use Rattle.lara_data.specs.Names.{Name, same_name, same_name_is, has, has_head, has_tail, has_append, has_among, among, distinct, common, others, or_by, not_true}
 use Rattle.lara_semiring.specs.Values.{same_val_type}
 use Rattle.lara_data.specs.Vals.{Vals, same_col, same_col_is, same_col_itself, has_col}
@@ -70,28 +70,28 @@ vals_filter p (v ∷ vals) h =
       | false ↦ rest
     ]
 
-few_columns : (keys : List KeyCol) (vals : Vals) → length keys ≤ 8 → 0 < length vals → length vals ≤ 8 → are_distinct keys vals ≡ true → are_columns keys vals ≡ true
+few_columns : (keys : List KeyCol) (vals : Vals) → length keys ≤ most_columns → 0 < length vals → length vals ≤ most_columns → are_distinct keys vals ≡ true → are_columns keys vals ≡ true
 unfolding are_columns
 few_columns keys vals k v w d =
-    and_from (nat_lt (length keys) 9 && nat_lt 0 (length vals) && nat_lt (length vals) 9) (are_distinct keys vals)
-    (and_from (nat_lt (length keys) 9 && nat_lt 0 (length vals)) (nat_lt (length vals) 9)
-    (and_from (nat_lt (length keys) 9) (nat_lt 0 (length vals)) (lt-ltb (length keys) 9 (omega arith)) (lt-ltb 0 (length vals) v))
-    (lt-ltb (length vals) 9 (omega arith))) d
+    and_from (nat_lt (length keys) (most_columns + 1) && nat_lt 0 (length vals) && nat_lt (length vals) (most_columns + 1)) (are_distinct keys vals)
+    (and_from (nat_lt (length keys) (most_columns + 1) && nat_lt 0 (length vals)) (nat_lt (length vals) (most_columns + 1))
+    (and_from (nat_lt (length keys) (most_columns + 1)) (nat_lt 0 (length vals)) (lt-ltb (length keys) (most_columns + 1) (omega arith)) (lt-ltb 0 (length vals) v))
+    (lt-ltb (length vals) (most_columns + 1) (omega arith))) d
 
-few_of : (keys : List KeyCol) (vals : Vals) → are_columns keys vals ≡ true → (length keys ≤ 8) × (0 < length vals) × (length vals ≤ 8) × (are_distinct keys vals ≡ true)
+few_of : (keys : List KeyCol) (vals : Vals) → are_columns keys vals ≡ true → (length keys ≤ most_columns) × (0 < length vals) × (length vals ≤ most_columns) × (are_distinct keys vals ≡ true)
 unfolding are_columns
 few_of keys vals h =
-    let front = (and_parts (nat_lt (length keys) 9 && nat_lt 0 (length vals) && nat_lt (length vals) 9) (are_distinct keys vals) h).0 in
-    let fronter = (and_parts (nat_lt (length keys) 9 && nat_lt 0 (length vals)) (nat_lt (length vals) 9) front).0 in
-    let a = ltb-true (length keys) 9 ((and_parts (nat_lt (length keys) 9) (nat_lt 0 (length vals)) fronter).0) in
-    let b = ltb-true 0 (length vals) ((and_parts (nat_lt (length keys) 9) (nat_lt 0 (length vals)) fronter).1) in
-    let c = ltb-true (length vals) 9 ((and_parts (nat_lt (length keys) 9 && nat_lt 0 (length vals)) (nat_lt (length vals) 9) front).1) in
-    (omega (arith, a), b, omega (arith, c), (and_parts (nat_lt (length keys) 9 && nat_lt 0 (length vals) && nat_lt (length vals) 9) (are_distinct keys vals) h).1)
+    let front = (and_parts (nat_lt (length keys) (most_columns + 1) && nat_lt 0 (length vals) && nat_lt (length vals) (most_columns + 1)) (are_distinct keys vals) h).0 in
+    let fronter = (and_parts (nat_lt (length keys) (most_columns + 1) && nat_lt 0 (length vals)) (nat_lt (length vals) (most_columns + 1)) front).0 in
+    let a = ltb-true (length keys) (most_columns + 1) ((and_parts (nat_lt (length keys) (most_columns + 1)) (nat_lt 0 (length vals)) fronter).0) in
+    let b = ltb-true 0 (length vals) ((and_parts (nat_lt (length keys) (most_columns + 1)) (nat_lt 0 (length vals)) fronter).1) in
+    let c = ltb-true (length vals) (most_columns + 1) ((and_parts (nat_lt (length keys) (most_columns + 1) && nat_lt 0 (length vals)) (nat_lt (length vals) (most_columns + 1)) front).1) in
+    (omega (arith, a), b, omega (arith, c), (and_parts (nat_lt (length keys) (most_columns + 1) && nat_lt 0 (length vals) && nat_lt (length vals) (most_columns + 1)) (are_distinct keys vals) h).1)
 
 -- columns that differ, of which there is a value column and not too many of either kind, are a table's
 of_few : (c : Columns) → too_many c ≡ false → 0 < length c.vals → are_distinct c.keys c.vals ≡ true → are_columns c.keys c.vals ≡ true
 unfolding too_many
-of_few c h v d = few_columns c.keys c.vals (ltb-false 8 (length c.keys) ((or_parts (nat_lt 8 (length c.keys)) (nat_lt 8 (length c.vals)) h).0)) v (ltb-false 8 (length c.vals) ((or_parts (nat_lt 8 (length c.keys)) (nat_lt 8 (length c.vals)) h).1)) d
+of_few c h v d = few_columns c.keys c.vals (ltb-false most_columns (length c.keys) ((or_parts (nat_lt most_columns (length c.keys)) (nat_lt most_columns (length c.vals)) h).0)) v (ltb-false most_columns (length c.vals) ((or_parts (nat_lt most_columns (length c.keys)) (nat_lt most_columns (length c.vals)) h).1)) d
 
 -- ---- names of value columns
 

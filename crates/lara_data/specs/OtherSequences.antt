@@ -1,4 +1,4 @@
--- Tables stored in another sequence of their key columns, and each operation on them.
+-- Tables with their key columns in another sequence, and each operation on them.
 use Rattle.std.specs.Prelude.{◌≡◌, true, false, cond, List, [], ◌∷◌, ◌++◌}
 use Rattle.std.proofs.Common.{refl, sym, ap, ◌∙◌, subst}
 use Rattle.std.specs.List.{flat_map}
@@ -14,10 +14,10 @@ use Rattle.lara_data.specs.TableTypes.{types}
 use Rattle.lara_data.specs.Names.{Name, Tuple, cut, among, common, others, among_itself, among_trans, cut_cut}
 use Rattle.lara_data.specs.Vals.{brought}
 use Rattle.lara_data.specs.ValSets.{distinct_cols, plus_padded, brought_itself}
-use Rattle.lara_data.specs.Tables.{Entry, Entries, Table, table_of, recut, stored}
-use Rattle.lara_data.specs.Algebra.{Heading, heading, common_vals, all_vals, join_heading, union_heading, agg_heading, agree, join_key, join_row, pair, pairs, join, shares, union, agg}
+use Rattle.lara_data.specs.Tables.{Entry, Entries, recut}
+use Rattle.lara_data.specs.Algebra.{Heading, common_vals, all_vals, join_heading, union_heading, agg_heading, agree, join_key, join_row, pair, pairs, join, shares, union, agg}
 use Rattle.lara_data.specs.AlgebraSums.{Same, pairs_same, shares_same, total_recut}
-use Rattle.lara_data.specs.Sequences.{SameNames, in_order, pairs_recut, key_itself}
+use Rattle.lara_data.specs.Sequences.{SameNames, pairs_recut, key_itself}
 
 -- a key with the columns ns and no others
 abbrev pub IsWhole : List Name → Tuple → Type 0
@@ -30,7 +30,7 @@ unfolding recut AllKeys
 recut_itself ns [] h = refl
 recut_itself ns (e ∷ es) h = λ i. record { key = h.0 i; row = e.row } ∷ recut_itself ns es h.1 i
 
-pub shares_recut : (a c : Heading) (o : List Name) (es : Entries) → among o c.keys ≡ true → shares (in_order a o) c (recut a.keys o es) ≡ shares a c es
+pub shares_recut : (a c : Heading) (o : List Name) (es : Entries) → among o c.keys ≡ true → shares (agg_heading a o) c (recut a.keys o es) ≡ shares a c es
 unfolding shares recut
 shares_recut a c o [] h = refl
 shares_recut a c o (e ∷ es) h = λ i. record { key = cut_cut a.keys o c.keys e.key h i; row = brought a.vals c.vals e.row } ∷ shares_recut a c o es h i
@@ -46,54 +46,47 @@ shares_own a ks (e ∷ es) d =
     let head : Same a.vals (record { key = k; row = brought a.vals a.vals e.row } ∷ []) (record { key = k; row = e.row } ∷ []) = record { same = λ q. at_cons tuple_order ts _ [] q ∙ (λ i. cond (same_key tuple_cmp q k) (row (at tuple_cmp ts [] q) i) (at tuple_cmp ts [] q)) ∙ sym (at_cons tuple_order ts _ [] q) } in
     SameAt-append tuple_order head (shares_own a ks es d)
 
--- ---- each operation over a table in another sequence
-
--- the table with its key columns in the sequence o
-abbrev pub in_sequence : Heading → List Name → Entries → Entries
-in_sequence a o es = total tuple_cmp (types a.vals) (recut a.keys o es)
-
--- it is what a table stores
-pub stored_is : (t : Table) (o : List Name) → stored t o ≡ in_sequence (heading t.ty) o t.entries
-unfolding stored table_of
-stored_is t o = refl
+-- ---- each operation over tables in other sequences of their key columns, which aggs by all of them are
 
 pub SameNames-among : {ns ms : List Name} → SameNames ns ms → (ks : List Name) → among ns ks ≡ true → among ms ks ≡ true
 SameNames-among {ns} {ms} s ks h = among_trans ms ns ks s.from h
 
 -- the shares of a table do not depend on the sequence of its key columns
-pub shares_stored : (a c : Heading) (o : List Name) (es : Entries) → among o c.keys ≡ true → Same c.vals (shares (in_order a o) c (in_sequence a o es)) (shares a c es)
-shares_stored a c o es h =
-    subst (Same c.vals (shares (in_order a o) c (in_sequence a o es))) (shares_recut a c o es h)
-    (shares_same (in_order a o) c (SameAt-total tuple_order (types a.vals) (recut a.keys o es)))
+pub shares_resequenced : (a c : Heading) (o : List Name) (es : Entries) → among o c.keys ≡ true → Same c.vals (shares (agg_heading a o) c (agg a o es)) (shares a c es)
+unfolding agg
+shares_resequenced a c o es h =
+    subst (Same c.vals (shares (agg_heading a o) c (agg a o es))) (shares_recut a c o es h)
+    (shares_same (agg_heading a o) c (SameAt-total tuple_order (types a.vals) (recut a.keys o es)))
 
 -- the shares of one table with its own value columns: an agg, and another sequence
-pub shares_own_stored : (a : Heading) (o ks : List Name) (es : Entries) → distinct_cols a.vals ≡ true → among o ks ≡ true → total tuple_cmp (types a.vals) (shares (in_order a o) (agg_heading a ks) (in_sequence a o es)) ≡ in_sequence a ks es
-shares_own_stored a o ks es d h = total_same tuple_order (SameAt-trans tuple_order (shares_stored a (agg_heading a ks) o es h) (shares_own a ks es d))
+pub shares_own_resequenced : (a : Heading) (o ks : List Name) (es : Entries) → distinct_cols a.vals ≡ true → among o ks ≡ true → total tuple_cmp (types a.vals) (shares (agg_heading a o) (agg_heading a ks) (agg a o es)) ≡ agg a ks es
+unfolding agg
+shares_own_resequenced a o ks es d h = total_same tuple_order (SameAt-trans tuple_order (shares_resequenced a (agg_heading a ks) o es h) (shares_own a ks es d))
 
 -- the shares of two tables: their union
-pub shares_union_stored : (a b : Heading) (o o' : List Name) (xs ys : Entries) → among o (common a.keys b.keys) ≡ true → among o' (common a.keys b.keys) ≡ true →
-    total tuple_cmp (types (all_vals a.vals b.vals)) (shares (in_order a o) (union_heading a b) (in_sequence a o xs) ++ shares (in_order b o') (union_heading a b) (in_sequence b o' ys)) ≡ union a b xs ys
-unfolding union
-shares_union_stored a b o o' xs ys p q =
+pub shares_union_resequenced : (a b : Heading) (o o' : List Name) (xs ys : Entries) → among o (common a.keys b.keys) ≡ true → among o' (common a.keys b.keys) ≡ true →
+    total tuple_cmp (types (all_vals a.vals b.vals)) (shares (agg_heading a o) (union_heading a b) (agg a o xs) ++ shares (agg_heading b o') (union_heading a b) (agg b o' ys)) ≡ union a b xs ys
+unfolding union agg
+shares_union_resequenced a b o o' xs ys p q =
     let c = union_heading a b in
-    total_same tuple_order (SameAt-append tuple_order (shares_stored a c o xs p) (shares_stored b c o' ys q))
+    total_same tuple_order (SameAt-append tuple_order (shares_resequenced a c o xs p) (shares_resequenced b c o' ys q))
 
 -- a join of tables in any sequences
-pub join_stored : (a b : Heading) (o o' : List Name) (xs ys : Entries) → SameNames a.keys o → SameNames b.keys o' → join (in_order a o) (in_order b o') (in_sequence a o xs) (in_sequence b o' ys) ≡ in_sequence (join_heading a b) (o ++ others o o') (join a b xs ys)
-unfolding join
-join_stored a b o o' xs ys s t =
+pub join_resequenced : (a b : Heading) (o o' : List Name) (xs ys : Entries) → SameNames a.keys o → SameNames b.keys o' → join (agg_heading a o) (agg_heading b o') (agg a o xs) (agg b o' ys) ≡ agg (join_heading a b) (o ++ others o o') (join a b xs ys)
+unfolding join agg
+join_resequenced a b o o' xs ys s t =
     let vs = common_vals a.vals b.vals in
-    total_same tuple_order (pairs_same (in_order a o) (in_order b o') (SameAt-total tuple_order (types a.vals) (recut a.keys o xs)) (SameAt-total tuple_order (types b.vals) (recut b.keys o' ys)))
+    total_same tuple_order (pairs_same (agg_heading a o) (agg_heading b o') (SameAt-total tuple_order (types a.vals) (recut a.keys o xs)) (SameAt-total tuple_order (types b.vals) (recut b.keys o' ys)))
     ∙ ap (total tuple_cmp (types vs)) (pairs_recut a b o o' s t xs ys)
     ∙ sym (total_recut vs (a.keys ++ others a.keys b.keys) (o ++ others o o') (pairs a b xs ys))
 
 -- a pass that need not go through sums, as what extends a table entry by entry: what it gives of a key in another
 -- sequence is what it gives of the key, in the other sequence
-pub pass_stored : (a c : Heading) (o o' : List Name) (f f' : Entry → Entries) (es : Entries) → SameNames a.keys o →
+pub pass_resequenced : (a c : Heading) (o o' : List Name) (f f' : Entry → Entries) (es : Entries) → SameNames a.keys o →
     ((e : Entry) → IsWhole a.keys e.key → f' (record { key = cut a.keys o e.key; row = e.row }) ≡ recut c.keys o' (f e)) → IsTable tuple_cmp (types a.vals) es → AllKeys (IsWhole a.keys) es →
-    total tuple_cmp (types c.vals) (flat_map f' (in_sequence a o es)) ≡ in_sequence c o' (total tuple_cmp (types c.vals) (flat_map f es))
-unfolding recut AllKeys
-pass_stored a c o o' f f' es s law t w =
+    total tuple_cmp (types c.vals) (flat_map f' (agg a o es)) ≡ agg c o' (total tuple_cmp (types c.vals) (flat_map f es))
+unfolding recut AllKeys agg
+pass_resequenced a c o o' f f' es s law t w =
     let back : (x y : Tuple) → IsWhole a.keys x → IsWhole a.keys y → cut a.keys o x ≡ cut a.keys o y → x ≡ y =
     λ x y p q e. sym p ∙ sym (cut_cut a.keys o a.keys x s.from) ∙ ap (cut o a.keys) e ∙ cut_cut a.keys o a.keys y s.from ∙ q in
     let one : Same c.vals (flat_map f' (total tuple_cmp (types a.vals) (with_keys (cut a.keys o) es))) (flat_map f' (with_keys (cut a.keys o) es)) =
