@@ -25,8 +25,8 @@ module _ {K : Type 0} (R : K → K → Ordering) where
 keep_kept : {K : Type 0} (ts : Types) (e : Keyed K) (t : List (Keyed K)) → IsKept ts e.row → keep ts e.key (own ts e) t ≡ e ∷ t
 unfolding keep
 keep_kept ts e t k =
-    let w : own ts e ≡ e.row = k.whole in
-    let z : row_is_zero ts (own ts e) ≡ false = ap (row_is_zero ts) w ∙ k.stays in
+    let w : own ts e ≡ e.row = k.within in
+    let z : row_is_zero ts (own ts e) ≡ false = ap (row_is_zero ts) w ∙ k.not_default in
     λ i. cond (z i) t (record { key = e.key; row = w i } ∷ t)
 
 module _ {K : Type 0} (R : K → K → Ordering) where

@@ -224,7 +224,7 @@ module _ {K : Type 0} {R : K → K → Ordering} (ko : IsKeyOrder R) where
   kept_at_keys ts es (k ∷ ks) =
       elim (row_is_zero ts (at R ts es k)) as (λ z. row_is_zero ts (at R ts es k) ≡ z → AllKept ts (cond z (at_keys R ts es ks) (record { key = k; row = at R ts es k } ∷ at_keys R ts es ks))) [
         | true ↦ λ e. kept_at_keys ts es ks
-        | false ↦ λ e. (record { stays = e; whole = at_whole ts es k }, kept_at_keys ts es ks)
+        | false ↦ λ e. (record { not_default = e; within = at_whole ts es k }, kept_at_keys ts es ks)
       ] refl
 
   pub IsTable-total : (ts : Types) (es : List (Keyed K)) → IsTable R ts (total R ts es)
@@ -266,7 +266,7 @@ module _ {K : Type 0} {R : K → K → Ordering} (ko : IsKeyOrder R) where
       at_cons ts e es e.key
       ∙ ap (λ b. cond b (row_plus ts e.row (at R ts es e.key)) (at R ts es e.key)) (same_key_itself ko e.key)
       ∙ ap (row_plus ts e.row) (at_below ts e.key es (first_rising e es h.rising))
-      ∙ row_plus_comm ts e.row (row_zero ts) ∙ (first_kept ts e es h.kept).whole
+      ∙ row_plus_comm ts e.row (row_zero ts) ∙ (first_kept ts e es h.kept).within
 
   pub table_rest : (ts : Types) (e : Keyed K) (es : List (Keyed K)) → IsTable R ts (e ∷ es) → IsTable R ts es
   table_rest ts e es h = record { rising = rest_rising e es h.rising; kept = rest_kept ts e es h.kept }
@@ -282,11 +282,11 @@ module _ {K : Type 0} {R : K → K → Ordering} (ko : IsKeyOrder R) where
 
   pub table_unique : (ts : Types) (s t : List (Keyed K)) → IsTable R ts s → IsTable R ts t → SameAt R ts s t → s ≡ t
   table_unique ts [] [] p q h = refl
-  table_unique ts [] (f ∷ t) p q h = absurd (not_zero ts f.row (first_kept ts f t q.kept).stays (sym (at_first ts f t q) ∙ sym (h.same f.key) ∙ at_none ts f.key))
-  table_unique ts (e ∷ s) [] p q h = absurd (not_zero ts e.row (first_kept ts e s p.kept).stays (sym (at_first ts e s p) ∙ h.same e.key ∙ at_none ts e.key))
+  table_unique ts [] (f ∷ t) p q h = absurd (not_zero ts f.row (first_kept ts f t q.kept).not_default (sym (at_first ts f t q) ∙ sym (h.same f.key) ∙ at_none ts f.key))
+  table_unique ts (e ∷ s) [] p q h = absurd (not_zero ts e.row (first_kept ts e s p.kept).not_default (sym (at_first ts e s p) ∙ h.same e.key ∙ at_none ts e.key))
   table_unique ts (e ∷ s) (f ∷ t) p q h =
       elim (before R e.key f.key) as (λ b. before R e.key f.key ≡ b → e ∷ s ≡ f ∷ t) [
-        | true ↦ λ l. absurd (not_zero ts e.row (first_kept ts e s p.kept).stays (sym (at_first ts e s p) ∙ h.same e.key ∙ absent_before ts e.key f t q l))
+        | true ↦ λ l. absurd (not_zero ts e.row (first_kept ts e s p.kept).not_default (sym (at_first ts e s p) ∙ h.same e.key ∙ absent_before ts e.key f t q l))
         | false ↦ λ l. elim (same_key R e.key f.key) as (λ b. same_key R e.key f.key ≡ b → e ∷ s ≡ f ∷ t) [
           | true ↦ λ k.
               let is : e.key ≡ f.key = same_key_is ko e.key f.key k in
@@ -294,7 +294,7 @@ module _ {K : Type 0} {R : K → K → Ordering} (ko : IsKeyOrder R) where
               let firsts : e ≡ f = λ i. record { key = is i; row = rows i } in
               let rests : SameAt R ts s t = record { same = λ x. same_rests x is } in
               λ i. firsts i ∷ table_unique ts s t (table_rest ts e s p) (table_rest ts f t q) rests i
-          | false ↦ λ k. absurd (not_zero ts f.row (first_kept ts f t q.kept).stays (sym (at_first ts f t q) ∙ sym (h.same f.key) ∙ absent_before ts f.key e s p (after_by ko e.key f.key l k)))
+          | false ↦ λ k. absurd (not_zero ts f.row (first_kept ts f t q.kept).not_default (sym (at_first ts f t q) ∙ sym (h.same f.key) ∙ absent_before ts f.key e s p (after_by ko e.key f.key l k)))
         ] refl
       ] refl
     where

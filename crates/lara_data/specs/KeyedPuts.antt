@@ -34,7 +34,7 @@ unfolding keep AllKept
 kept_keep ts k r t w h =
     elim (row_is_zero ts r) as (λ z. row_is_zero ts r ≡ z → AllKept ts (cond z t (record { key = k; row = r } ∷ t))) [
       | true ↦ λ e. h
-      | false ↦ λ e. (record { stays = e; whole = w }, h)
+      | false ↦ λ e. (record { not_default = e; within = w }, h)
     ] refl
 
 module _ {K : Type 0} {R : K → K → Ordering} (ko : IsKeyOrder R) where

@@ -22,10 +22,10 @@ Types = List ValType
 abbrev pub Row : Type 0
 Row = List Value
 
--- the row is not the default one, and is its own sum
+-- the row is not the default one, and is within the types: the sum of it alone is itself
 pub record IsKept (ts : Types) (row : Row) : Type 0 where
-  pub stays : row_is_zero ts row ≡ false
-  pub whole : row_plus ts (row_zero ts) row ≡ row
+  pub not_default : row_is_zero ts row ≡ false
+  pub within : row_plus ts (row_zero ts) row ≡ row
 
 -- each row is one that a table keeps
 unfoldable pub AllKept : {K : Type 0} → Types → List (Keyed K) → Type 0

@@ -64,7 +64,7 @@ module _ {K : Type 0} {R : K → K → Ordering} (ko : IsKeyOrder R) where
       elim (same_key R k e.key) as (λ b. same_key R k e.key ≡ b → (b || has_entry R t k) ≡ not (row_is_zero ts (at R ts (e ∷ t) k))) [
         | true ↦ λ s.
             let here : at R ts (e ∷ t) k ≡ e.row = ap (at R ts (e ∷ t)) (same_key_is ko k e.key s) ∙ at_first ko ts e t h in
-            sym (ap (λ r. not (row_is_zero ts r)) here ∙ ap not (first_kept ko ts e t h.kept).stays)
+            sym (ap (λ r. not (row_is_zero ts r)) here ∙ ap not (first_kept ko ts e t h.kept).not_default)
         | false ↦ λ s. has_entry_table ts t k (table_rest ko ts e t h) ∙ ap (λ r. not (row_is_zero ts r)) (sym (rest_at ko ts e t k s))
       ] refl
 
@@ -103,4 +103,4 @@ module _ {K : Type 0} {R : K → K → Ordering} (ko : IsKeyOrder R) where
   unfolding has_row has_entry AllKept
   has_row_kept ts [] k h = refl
   has_row_kept ts (e ∷ es) k h =
-      (λ i. (same_key R k e.key && not (h.0.stays i)) || has_row_kept ts es k h.1 i) ∙ ap (λ b. b || has_entry R es k) (and-true (same_key R k e.key))
+      (λ i. (same_key R k e.key && not (h.0.not_default i)) || has_row_kept ts es k h.1 i) ∙ ap (λ b. b || has_entry R es k) (and-true (same_key R k e.key))

@@ -127,8 +127,8 @@ not_by false q f h = refl
 -- a row that a table may keep, brought to columns that have all of its own
 pub brought_kept : (ds cs : Vals) (r : Row) → distinct_cols ds ≡ true → among_cols cs ds ≡ true → IsKept (types ds) r → IsKept (types cs) (brought ds cs r)
 brought_kept ds cs r d a k = record {
-  stays = not_by (row_is_zero (types cs) (brought ds cs r)) (row_is_zero (types ds) r) (zero_by_brought ds cs r d a) k.stays;
-  whole = ap (λ x. row_plus (types cs) x (brought ds cs r)) (sym (brought_zero ds cs)) ∙ sym (brought_plus ds cs (row_zero (types ds)) r) ∙ ap (brought ds cs) k.whole;
+  not_default = not_by (row_is_zero (types cs) (brought ds cs r)) (row_is_zero (types ds) r) (zero_by_brought ds cs r d a) k.not_default;
+  within = ap (λ x. row_plus (types cs) x (brought ds cs r)) (sym (brought_zero ds cs)) ∙ sym (brought_plus ds cs (row_zero (types ds)) r) ∙ ap (brought ds cs) k.within;
 }
 
 -- each list of columns is among what joins it with others
