@@ -1,19 +1,20 @@
 -- Passes that go through sums, made of smaller ones; other keys and sums by groups; and the pieces of a list.
 use Rattle.std.specs.Prelude.{◌≡◌, Bool, true, false, cond, not, List, [], ◌∷◌, ◌++◌, filter, map, ℕ, ◌+◌}
 use Rattle.std.proofs.Common.{refl, sym, ap, ◌∙◌, subst, arith, append_assoc}
-use Rattle.std.specs.List.{flat_map}
+use Rattle.std.specs.List.{flat_map, count_by}
+use Rattle.std.proofs.lemmas.List.Sums.{sum_by-cons}
 use Rattle.std.specs.declared.cmp.Ordering.{Ordering}
 use Rattle.lara_semiring.specs.Rows.{row_zero, row_plus, row_plus_assoc, row_plus_comm, row_zero_plus_plus, row_zero_twice}
 use Rattle.lara_data.specs.declared.entry.Keyed.{Keyed}
-use Rattle.lara_data.specs.KeyedTables.{IsKeyOrder, Types, Row, same_key, at, SameAt, total, with_keys}
+use Rattle.lara_data.specs.KeyedTables.{IsKeyOrder, Types, Row, fitted, same_key, at, SameAt, total, with_keys}
 use Rattle.lara_data.specs.KeyedLaws.{at_none, SameAt-refl, SameAt-sym, SameAt-trans, SameAt-append, SameAt-swap, SameAt-cons, SameAt-total}
 use Rattle.lara_data.specs.KeyedTotals.{total_same, total_of_totals}
 use Rattle.lara_data.specs.Additive.{IsAdditive, SameAt-map}
 
--- a function of rows that keeps sums
+-- a function of rows that keeps zero and sums, as the types read them
 pub record IsLinear (ts us : Types) (f : Row → Row) : Type 0 where
-  pub none : row_plus us (row_zero us) (f (row_zero ts)) ≡ row_zero us
-  pub plus : (r s : Row) → row_plus us (row_zero us) (f (row_plus ts r s)) ≡ row_plus us (f r) (f s)
+  pub none : fitted us (f (row_zero ts)) ≡ row_zero us
+  pub plus : (r s : Row) → fitted us (f (row_plus ts r s)) ≡ row_plus us (f r) (f s)
 
 pub id_linear : (ts : Types) → IsLinear ts ts (λ r. r)
 id_linear ts = record { none = row_zero_twice ts; plus = λ r s. row_zero_plus_plus ts r s }
@@ -48,13 +49,15 @@ grouped S ts h es = total S ts (with_keys h es)
 
 -- how many of the pieces an entry belongs to
 abbrev pub homes : {X K : Type 0} → (X → Keyed K → Bool) → List X → Keyed K → ℕ
-homes belongs [] e = 0
-homes belongs (p ∷ ps) e = cond (belongs p e) 1 0 + homes belongs ps e
+homes belongs ps e = count_by (λ p. belongs p e) ps
 
 -- each entry of a list belongs to one piece
 abbrev pub EachOnce : {X K : Type 0} → (X → Keyed K → Bool) → List X → List (Keyed K) → Type 0
 EachOnce belongs ps [] = Unit {0}
 EachOnce belongs ps (e ∷ es) = (homes belongs ps e ≡ 1) × EachOnce belongs ps es
+
+homes_cons : {X K : Type 0} (belongs : X → Keyed K → Bool) (p : X) (ps : List X) (e : Keyed K) → homes belongs (p ∷ ps) e ≡ cond (belongs p e) 1 0 + homes belongs ps e
+homes_cons belongs p ps e = sum_by-cons (λ x. cond (belongs x e) 1 0) p ps
 
 at_home_none : {X K : Type 0} (belongs : X → Keyed K → Bool) (ps : List X) (e : Keyed K) → homes belongs ps e ≡ 0 → flat_map (λ p. cond (belongs p e) (e ∷ []) []) ps ≡ []
 at_home_none belongs [] e h = refl
@@ -62,7 +65,7 @@ at_home_none belongs (p ∷ ps) e h =
     elim (belongs p e) as (λ b. cond b 1 0 + homes belongs ps e ≡ 0 → cond b (e ∷ []) [] ++ flat_map (λ x. cond (belongs x e) (e ∷ []) []) ps ≡ []) [
       | true ↦ λ m. absurd (one_is_none (homes belongs ps e) m)
       | false ↦ λ m. at_home_none belongs ps e (omega arith)
-    ] h
+    ] (sym (homes_cons belongs p ps e) ∙ h)
 
 at_home : {X K : Type 0} (belongs : X → Keyed K → Bool) (ps : List X) (e : Keyed K) → homes belongs ps e ≡ 1 → flat_map (λ p. cond (belongs p e) (e ∷ []) []) ps ≡ e ∷ []
 at_home belongs [] e h = absurd (omega arith)
@@ -70,7 +73,7 @@ at_home belongs (p ∷ ps) e h =
     elim (belongs p e) as (λ b. cond b 1 0 + homes belongs ps e ≡ 1 → cond b (e ∷ []) [] ++ flat_map (λ x. cond (belongs x e) (e ∷ []) []) ps ≡ e ∷ []) [
       | true ↦ λ m. ap (λ t. e ∷ t) (at_home_none belongs ps e (omega arith))
       | false ↦ λ m. at_home belongs ps e (omega arith)
-    ] h
+    ] (sym (homes_cons belongs p ps e) ∙ h)
 
 filter_as : {K : Type 0} (p : Keyed K → Bool) (x : Keyed K) (xs : List (Keyed K)) → filter p (x ∷ xs) ≡ cond (p x) (x ∷ []) [] ++ filter p xs
 filter_as p x xs = elim (p x) as (λ b. cond b (x ∷ filter p xs) (filter p xs) ≡ cond b (x ∷ []) [] ++ filter p xs) [ true ↦ refl | false ↦ refl ]

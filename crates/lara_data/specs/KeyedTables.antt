@@ -22,10 +22,14 @@ Types = List ValType
 abbrev pub Row : Type 0
 Row = List Value
 
--- the row is not the default one, and is within the types: the sum of it alone is itself
+-- the row as the types read it, which is the sum of it alone: of their length, with values of their ranges
+abbrev pub fitted : Types → Row → Row
+fitted ts row = row_plus ts (row_zero ts) row
+
+-- the row is not the default one, and is as the types read it
 pub record IsKept (ts : Types) (row : Row) : Type 0 where
   pub not_default : row_is_zero ts row ≡ false
-  pub within : row_plus ts (row_zero ts) row ≡ row
+  pub within : fitted ts row ≡ row
 
 -- each row is one that a table keeps
 unfoldable pub AllKept : {K : Type 0} → Types → List (Keyed K) → Type 0
