@@ -222,7 +222,7 @@ fn types_and_values_are_copied(rt: HostRuntime) -> Result<(), Fail> {
 #[test]
 #[tactic(auto, unfolding(crate::specs::Values::has_type))]
 fn values_of_a_type(rt: HostRuntime) {
-    assert_eq!(rt; number(&zero(&ValType::Count)), 0);
+    assert_eq!(rt; number(&zero(rt.alloc(), &ValType::Count)), 0);
     assert!(rt; is_over(&ValType::Count, &Value::Count(OVER)));
     assert!(rt; !is_over(&ValType::Count, &Value::Count(OVER - 1)));
 }
