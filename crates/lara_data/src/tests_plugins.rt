@@ -119,18 +119,50 @@ fn one_arg(alloc: Global) -> Result<List<Arg>, AllocError> {
     Ok(args)
 }
 
+fn make_seven(alloc: Global) -> Result<Seven, AllocError> {
+    Ok(Seven {
+        name: name(alloc, b'p')?,
+    })
+}
+
+fn make_boxed_seven(alloc: Global) -> Result<Box<dyn Plugin>, AllocError> {
+    Ok(Box::new(alloc, make_seven(alloc)?)?)
+}
+
+fn adds_seven<P: Plugin>(alloc: Global, plugin: &P) -> Result<bool, AllocError> {
+    Ok(is_seven(&added(alloc, plugin, &List::new(alloc))?))
+}
+
+fn refuses_one<P: Plugin>(alloc: Global, plugin: &P) -> Result<bool, AllocError> {
+    let args = one_arg(alloc)?;
+    Ok(added(alloc, plugin, &args)?.is_none())
+}
+
+fn box_adds_seven(alloc: Global, plugin: &Box<dyn Plugin>) -> Result<bool, AllocError> {
+    Ok(is_seven(&added_by_box(alloc, plugin, &List::new(alloc))?))
+}
+
+fn box_refuses_one(alloc: Global, plugin: &Box<dyn Plugin>) -> Result<bool, AllocError> {
+    let args = one_arg(alloc)?;
+    Ok(added_by_box(alloc, plugin, &args)?.is_none())
+}
+
 #[test]
 fn a_plugin_adds_tuples_and_refuses(rt: HostRuntime) -> Result<(), Fail> {
     let alloc = rt.alloc();
-    let plugin = Seven {
-        name: name(alloc, b'p')?,
-    };
+    let plugin = make_seven(alloc)?;
     assert!(rt; is_named(&plugin, b'p'));
-    assert!(rt; is_seven(&added(alloc, &plugin, &List::new(alloc))?));
-    assert!(rt; added(alloc, &plugin, &one_arg(alloc)?)?.is_none());
-    let boxed: Box<dyn Plugin> = Box::new(alloc, plugin)?;
-    assert!(rt; is_letter(boxed.name(), b'p'));
-    assert!(rt; is_seven(&added_by_box(alloc, &boxed, &List::new(alloc))?));
-    assert!(rt; added_by_box(alloc, &boxed, &one_arg(alloc)?)?.is_none());
+    assert!(rt; adds_seven(alloc, &plugin)?);
+    assert!(rt; refuses_one(alloc, &plugin)?);
+    Ok(())
+}
+
+#[test]
+fn a_plugin_among_others_adds_tuples_and_refuses(rt: HostRuntime) -> Result<(), Fail> {
+    let alloc = rt.alloc();
+    let plugin = make_boxed_seven(alloc)?;
+    assert!(rt; is_letter(plugin.name(), b'p'));
+    assert!(rt; box_adds_seven(alloc, &plugin)?);
+    assert!(rt; box_refuses_one(alloc, &plugin)?);
     Ok(())
 }

@@ -1,0 +1,2 @@
+pub mod OverFacts
+pub mod ValueKinds

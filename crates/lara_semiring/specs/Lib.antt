@@ -4,5 +4,6 @@ pub mod Products
 pub mod Rows
 pub mod Semirings
 pub mod ValueProducts
+pub mod ValueSemirings
 pub mod Values
 pub mod ZeroSums

@@ -8,7 +8,7 @@ mod value;
 
 pub use count::CountVal;
 pub use lara_base::Text;
-pub use row::{is_default, row_plus, row_times};
+pub use row::{is_default, is_row_over, row_plus, row_times};
 pub use semiring::Semiring;
 pub use value::{Row, ValType, Value, is_over, plus, same_val_type, times, zero};
 

@@ -13,22 +13,6 @@ use std::test::Fail;
 
 const OVER: u64 = u64::MAX;
 
-fn two_counts(alloc: Global) -> Result<List<ValType>, AllocError>
-    ensures { IfOk result (λ r. r ≡ Count ∷ Count ∷ []) }
-{
-    List::from_slice(alloc, &[ValType::Count, ValType::Count])
-}
-
-#[tactic(auto, unfolding(crate::specs::Rows::row_has, crate::specs::Values::has_type))]
-fn pair(alloc: Global, first: u64, second: u64) -> Result<Row, AllocError>
-    ensures { IfOk result (λ r. row_has (Count ∷ Count ∷ []) r ≡ true) }
-{
-    let mut row = List::new(alloc);
-    row.push(Value::Count(first))?;
-    row.push(Value::Count(second))?;
-    Ok(row)
-}
-
 fn number(value: &Value) -> u64 {
     match value {
         Value::Count(n) => *n,
@@ -71,6 +55,30 @@ fn spread<T: Semiring>(alloc: Global, a: &T, b: &T, c: &T) -> Result<T, AllocErr
 }
 
 #[tactic(auto, unfolding(crate::specs::Values::has_type))]
+fn sum(alloc: Global, a: u64, b: u64) -> Result<u64, AllocError> {
+    let sum = plus(alloc, &ValType::Count, &Value::Count(a), &Value::Count(b))?;
+    Ok(number(&sum))
+}
+
+#[tactic(auto, unfolding(crate::specs::Values::has_type))]
+fn product(alloc: Global, a: u64, b: u64) -> Result<u64, AllocError> {
+    let product = times(alloc, &ValType::Count, &Value::Count(a), &Value::Count(b))?;
+    Ok(number(&product))
+}
+
+fn turned_sum(alloc: Global, a: u64, b: u64) -> Result<CountVal, AllocError> {
+    turned(alloc, &CountVal { number: a }, &CountVal { number: b })
+}
+
+fn spread_product(alloc: Global, a: u64, b: u64, c: u64) -> Result<CountVal, AllocError> {
+    spread(
+        alloc,
+        &CountVal { number: a },
+        &CountVal { number: b },
+        &CountVal { number: c },
+    )
+}
+
 #[test]
 fn counts_add_up_to_over(rt: HostRuntime) -> Result<(), Fail> {
     let alloc = rt.alloc();
@@ -82,21 +90,16 @@ fn counts_add_up_to_over(rt: HostRuntime) -> Result<(), Fail> {
         (OVER - 1, OVER - 1, OVER),
         (OVER, 0, OVER),
     ] {
-        let sum = plus(alloc, &ValType::Count, &Value::Count(a), &Value::Count(b))?;
-        assert_eq!(rt; number(&sum), want, "at {a} and {b}");
-        let sum = turned(alloc, &CountVal { number: a }, &CountVal { number: b })?;
-        assert_eq!(rt; sum.number, want, "at {a} and {b}");
-        let (is_zero, is_over) = zero_or_over(&sum);
+        assert_eq!(rt; sum(alloc, a, b)?, want, "at {a} and {b}");
+        let turned = turned_sum(alloc, a, b)?;
+        assert_eq!(rt; turned.number, want, "at {a} and {b}");
+        let (is_zero, is_over) = zero_or_over(&turned);
         assert_eq!(rt; is_zero, want == 0, "at {a} and {b}");
         assert_eq!(rt; is_over, want == OVER, "at {a} and {b}");
     }
-    let (zero, one) = identities::<CountVal>(alloc);
-    assert_eq!(rt; zero.number, 0);
-    assert_eq!(rt; one.number, 1);
     Ok(())
 }
 
-#[tactic(auto, unfolding(crate::specs::Values::has_type))]
 #[test]
 fn counts_multiply_up_to_over(rt: HostRuntime) -> Result<(), Fail> {
     let alloc = rt.alloc();
@@ -109,47 +112,109 @@ fn counts_multiply_up_to_over(rt: HostRuntime) -> Result<(), Fail> {
         (6_148_914_691_236_517_205, 3, OVER),
         (OVER, OVER, OVER),
     ] {
-        let product = times(alloc, &ValType::Count, &Value::Count(a), &Value::Count(b))?;
-        assert_eq!(rt; number(&product), want, "at {a} and {b}");
+        assert_eq!(rt; product(alloc, a, b)?, want, "at {a} and {b}");
     }
-    let spread = spread(
-        alloc,
-        &CountVal { number: 3 },
-        &CountVal { number: 4 },
-        &CountVal { number: 5 },
-    )?;
-    assert_eq!(rt; spread.number, 27);
+    assert_eq!(rt; spread_product(alloc, 3, 4, 5)?.number, 27);
+    Ok(())
+}
+
+#[test]
+fn counts_have_a_zero_and_a_one(rt: HostRuntime) {
+    let (zero, one) = identities::<CountVal>(rt.alloc());
+    assert_eq!(rt; zero.number, 0);
+    assert_eq!(rt; one.number, 1);
+}
+
+fn two_counts(alloc: Global) -> Result<List<ValType>, AllocError>
+    ensures { IfOk result (λ r. r ≡ Count ∷ Count ∷ []) }
+{
+    List::from_slice(alloc, &[ValType::Count, ValType::Count])
+}
+
+#[tactic(auto, unfolding(crate::specs::Rows::row_has, crate::specs::Values::has_type))]
+fn pair(alloc: Global, first: u64, second: u64) -> Result<Row, AllocError>
+    ensures { IfOk result (λ r. row_has (Count ∷ Count ∷ []) r ≡ true) }
+{
+    let mut row = List::new(alloc);
+    row.push(Value::Count(first))?;
+    row.push(Value::Count(second))?;
+    Ok(row)
+}
+
+// The numbers of a row of two columns.
+fn numbers(row: &Row) -> Option<(u64, u64)> {
+    match row.as_slice() {
+        [first, second] => Some((number(first), number(second))),
+        _ => None,
+    }
+}
+
+// The sum of (1, over) and (20, 300).
+fn sum_of_rows(alloc: Global) -> Result<Row, AllocError> {
+    let tys = two_counts(alloc)?;
+    let a = pair(alloc, 1, OVER)?;
+    let b = pair(alloc, 20, 300)?;
+    row_plus(alloc, &tys, &a, &b)
+}
+
+// The product of (6, over) and (7, 0).
+fn product_of_rows(alloc: Global) -> Result<Row, AllocError> {
+    let tys = two_counts(alloc)?;
+    let a = pair(alloc, 6, OVER)?;
+    let b = pair(alloc, 7, 0)?;
+    row_times(alloc, &tys, &a, &b)
+}
+
+// Whether the product of (1, 0) and (0, 1) is default.
+fn is_product_default(alloc: Global) -> Result<bool, AllocError> {
+    let tys = two_counts(alloc)?;
+    let a = pair(alloc, 1, 0)?;
+    let b = pair(alloc, 0, 1)?;
+    let product = row_times(alloc, &tys, &a, &b)?;
+    Ok(is_default(&tys, &product))
+}
+
+fn is_pair_default(alloc: Global, first: u64, second: u64) -> Result<bool, AllocError> {
+    let tys = two_counts(alloc)?;
+    let row = pair(alloc, first, second)?;
+    Ok(is_default(&tys, &row))
+}
+
+#[test]
+fn rows_add_in_each_column(rt: HostRuntime) -> Result<(), Fail> {
+    let alloc = rt.alloc();
+    let copy = copy_of(alloc, &sum_of_rows(alloc)?)?;
+    assert_eq!(rt; numbers(&copy), Some((21, OVER)));
     Ok(())
 }
 
 #[test]
 fn rows_multiply_in_each_column(rt: HostRuntime) -> Result<(), Fail> {
     let alloc = rt.alloc();
-    let tys = two_counts(alloc)?;
-    let product = row_times(alloc, &tys, &pair(alloc, 6, OVER)?, &pair(alloc, 7, 0)?)?;
-    assert_eq!(rt; product.len(), 2);
-    assert_eq!(rt; number(&product[0]), 42);
-    assert_eq!(rt; number(&product[1]), 0);
-    let product = row_times(alloc, &tys, &pair(alloc, 1, 0)?, &pair(alloc, 0, 1)?)?;
-    assert!(rt; is_default(&tys, &product));
+    assert_eq!(rt; numbers(&product_of_rows(alloc)?), Some((42, 0)));
+    assert!(rt; is_product_default(alloc)?);
     Ok(())
 }
 
 #[test]
-fn rows_add_in_each_column(rt: HostRuntime) -> Result<(), Fail> {
+fn rows_of_zeros_are_default(rt: HostRuntime) -> Result<(), Fail> {
     let alloc = rt.alloc();
-    let tys = two_counts(alloc)?;
-    let sum = row_plus(alloc, &tys, &pair(alloc, 1, OVER)?, &pair(alloc, 20, 300)?)?;
-    let copy = copy_of(alloc, &sum)?;
-    assert_eq!(rt; copy.len(), 2);
-    assert_eq!(rt; number(&copy[0]), 21);
-    assert_eq!(rt; number(&copy[1]), OVER);
-    assert!(rt; is_default(&tys, &pair(alloc, 0, 0)?));
-    assert!(rt; !is_default(&tys, &pair(alloc, 0, 1)?));
-    assert!(rt; !is_default(&tys, &pair(alloc, 1, 0)?));
-    let copy = copy_of(alloc, &tys)?;
-    assert_eq!(rt; copy.len(), 2);
-    assert_eq!(rt; copy_of(alloc, &copy[1])?, ValType::Count);
+    assert!(rt; is_pair_default(alloc, 0, 0)?);
+    assert!(rt; !is_pair_default(alloc, 0, 1)?);
+    assert!(rt; !is_pair_default(alloc, 1, 0)?);
+    Ok(())
+}
+
+fn copy_of_types(alloc: Global) -> Result<List<ValType>, AllocError> {
+    copy_of(alloc, &two_counts(alloc)?)
+}
+
+#[test]
+fn types_and_values_are_copied(rt: HostRuntime) -> Result<(), Fail> {
+    let alloc = rt.alloc();
+    let two = [ValType::Count, ValType::Count];
+    assert_eq!(rt; copy_of_types(alloc)?.as_slice(), two.as_slice());
+    assert_eq!(rt; copy_of(alloc, &ValType::Count)?, ValType::Count);
     assert_eq!(rt; number(&copy_of(alloc, &Value::Count(OVER))?), OVER);
     Ok(())
 }
@@ -157,7 +222,7 @@ fn rows_add_in_each_column(rt: HostRuntime) -> Result<(), Fail> {
 #[test]
 #[tactic(auto, unfolding(crate::specs::Values::has_type))]
 fn values_of_a_type(rt: HostRuntime) {
-    assert_eq!(rt; number(&zero(&ValType::Count)), 0);
+    assert_eq!(rt; number(&zero(rt.alloc(), &ValType::Count)), 0);
     assert!(rt; is_over(&ValType::Count, &Value::Count(OVER)));
     assert!(rt; !is_over(&ValType::Count, &Value::Count(OVER - 1)));
 }
