@@ -1,9 +1,7 @@
 -- What it is that an operator with places is checked, and how many nodes it has.
 use Rattle.std.proofs.Common.{◌≡◌, ℕ, ◌+◌, List, refl}
-use Rattle.lara_data.specs.declared.node.Op.TheVariants as to
 use Rattle.lara_data.specs.declared.refusal.Kind.TheVariants.{Unexpected}
 use Rattle.lara_data.specs.declared.schema.Schema.{Schema}
-use Rattle.lara_data.specs.TypeRules.{join_type, union_type, agg_type}
 use Rattle.lara_syntax.specs.declared.ast.AstEntry.{AstEntry}
 use Rattle.lara_syntax.specs.declared.ast.AstName.{AstName}
 use Rattle.lara_syntax.specs.declared.ast.AstNode.{AstNode}
@@ -14,7 +12,7 @@ use Rattle.lara_syntax.specs.declared.ast_part.AstCall.{AstCall}
 use Rattle.lara_syntax.specs.declared.ast_part.AstDef.{AstDef}
 use Rattle.lara_syntax.specs.declared.ast_part.AstKeyDef.{AstKeyDef}
 use Rattle.lara_syntax.specs.declared.ast_part.AstPair.{AstPair}
-use Rattle.lara_types.specs.CheckedTrees.{plain, loaded, assigned, placed, placed_agg, literal_node, checked_op}
+use Rattle.lara_types.specs.CheckedTrees.{loaded, assigned, literal, joined, united, summed, checked_op}
 use Rattle.lara_data.specs.Judgements.{refused}
 use Rattle.lara_types.specs.Sizes.{written_nodes}
 use Rattle.lara_base.specs.Results.{◌>>=◌}
@@ -28,19 +26,19 @@ module _ (stored known : List Schema) (at : ℕ) where
   unfolding checked_op
   checked_Named n = refl
 
-  pub checked_Literal : (ty : AstType) (es : List AstEntry) → checked_op stored known at (Literal ty es) ≡ literal_node at ty es
+  pub checked_Literal : (ty : AstType) (es : List AstEntry) → checked_op stored known at (Literal ty es) ≡ literal at ty es
   unfolding checked_op
   checked_Literal ty es = refl
 
-  pub checked_Join : (a b : AstNode) → checked_op stored known at (Join a b) ≡ (checked_op stored known a.at a.op >>= λ x. checked_op stored known b.at b.op >>= λ y. placed at (to.Join x y) (join_type x.ty y.ty))
+  pub checked_Join : (a b : AstNode) → checked_op stored known at (Join a b) ≡ (checked_op stored known a.at a.op >>= λ x. checked_op stored known b.at b.op >>= λ y. joined at x y)
   unfolding checked_op Rattle.lara_syntax.specs.declared.ast.AstOp.TheBlock.hidden-the_row-AstNode-0 denote.Hole.Carrier.hidden
   checked_Join a b = refl
 
-  pub checked_Union : (a b : AstNode) → checked_op stored known at (Union a b) ≡ (checked_op stored known a.at a.op >>= λ x. checked_op stored known b.at b.op >>= λ y. placed at (to.Union x y) (union_type x.ty y.ty))
+  pub checked_Union : (a b : AstNode) → checked_op stored known at (Union a b) ≡ (checked_op stored known a.at a.op >>= λ x. checked_op stored known b.at b.op >>= λ y. united at x y)
   unfolding checked_op Rattle.lara_syntax.specs.declared.ast.AstOp.TheBlock.hidden-the_row-AstNode-0 denote.Hole.Carrier.hidden
   checked_Union a b = refl
 
-  pub checked_Agg : (a : AstNode) (ks : List AstName) → checked_op stored known at (Agg a ks) ≡ (checked_op stored known a.at a.op >>= λ x. placed_agg x at ks (agg_type x.ty (plain ks)))
+  pub checked_Agg : (a : AstNode) (ks : List AstName) → checked_op stored known at (Agg a ks) ≡ (checked_op stored known a.at a.op >>= λ x. summed x ks)
   unfolding checked_op Rattle.lara_syntax.specs.declared.ast.AstOp.TheBlock.hidden-the_row-AstNode-0 denote.Hole.Carrier.hidden
   checked_Agg a ks = refl
 

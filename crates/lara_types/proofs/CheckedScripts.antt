@@ -9,7 +9,7 @@ use Rattle.lara_syntax.specs.declared.ast.Ast.{Ast}
 use Rattle.lara_syntax.specs.declared.ast.AstStatement.{AstStatement}
 use Rattle.lara_types.specs.Checks.{checked_statement, at_start, one_more, checked}
 use Rattle.lara_types.specs.Walks.{walk}
-use Rattle.lara_types.proofs.WalkFacts.{walk-none, walk-more, walk-stops}
+use Rattle.lara_types.specs.WalkLaws.{walk-none, walk-more, walk-stops}
 
 module _ (stored : List Schema) where
   pub checked_none : (known : List Schema) (ss : List Statement) → known ≡ [] → ss ≡ [] → walk (one_more stored) at_start [] ≡ Ok (record { known = known; statements = ss })

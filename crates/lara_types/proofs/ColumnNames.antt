@@ -12,7 +12,7 @@ use Rattle.lara_data.specs.declared.refusal.ReadFault.TheVariants.{Refused, Memo
 use Rattle.lara_types.specs.Walks.{walk}
 use Rattle.lara_data.specs.Judgements.{Judged, FaultJudges}
 use Rattle.lara_types.specs.LiteralTypes.{one_more_key, one_more_val, distinct_names, key_col_name, val_col_name}
-use Rattle.lara_types.proofs.WalkFacts.{walk-more, walk-stops, map-more}
+use Rattle.lara_types.specs.WalkLaws.{walk-more, walk-stops, map-more}
 
 -- a fault of a step is a fault of what the step's refusal refuses
 pub fault_through : {A B : Type 0} (step : Judged A) (whole : Judged B) (fault : ReadFault) → ((r : Refusal) → step ≡ Err r → whole ≡ Err r) → FaultJudges step fault → FaultJudges whole fault

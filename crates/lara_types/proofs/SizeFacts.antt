@@ -14,7 +14,7 @@ use Rattle.lara_syntax.specs.declared.ast.AstOp.TheBlock.{end_of-AstNode, more_o
 use Rattle.lara_syntax.specs.declared.ast.AstOp.TheVariants.{Load, Named, Literal, Join', Union', Agg', Map', Filter', Promote', Rename', Apply'}
 use Rattle.lara_syntax.specs.declared.ast.AstStatement.{AstStatement}
 use Rattle.lara_syntax.specs.declared.ast.AstStatement.TheVariants as ast
-use Rattle.lara_types.specs.CheckedTrees.{plain}
+use Rattle.lara_types.specs.Written.{plain}
 use Rattle.lara_types.specs.HasTypes.{OpHas, StatementHas, StatementsHave, HasTypes}
 use Rattle.lara_types.specs.Sizes.{written_nodes, nodes_written, nodes_typed, all_written, all_typed}
 

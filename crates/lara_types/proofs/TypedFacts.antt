@@ -20,8 +20,9 @@ use Rattle.lara_syntax.specs.declared.ast.AstOp.TheBlock.{end_of-AstNode, more_o
 use Rattle.lara_syntax.specs.declared.ast.AstOp.TheVariants.{Load, Named, Literal, Join', Union', Agg', Map', Filter', Promote', Rename', Apply'}
 use Rattle.lara_syntax.specs.declared.ast.AstStatement.{AstStatement}
 use Rattle.lara_syntax.specs.declared.ast.AstStatement.TheVariants as ast
-use Rattle.lara_types.specs.CheckedTrees.{plain}
+use Rattle.lara_types.specs.Written.{plain}
 use Rattle.lara_types.specs.HasTypes.{OpHas, IsOrder, StatementHas, StatementsHave, HasTypes}
+use Rattle.lara_types.specs.RuleTypes.{is_join_type, is_union_type, is_agg_type}
 use Rattle.lara_types.specs.StoredTypes.{AllColumns}
 use Rattle.lara_types.proofs.ColumnFacts.{among_all}
 use Rattle.lara_types.proofs.LiteralFacts.{is_literal}
@@ -57,11 +58,11 @@ module _ (stored : List Schema) (of_stored : AllColumns stored) (known : List Sc
   op_typed (Named n) node h = typed_by node.op (to.Named n.name) node.ty _ h.0 (typed_Named known n.name node.ty) h.1
   op_typed (Literal ty es) node h = typed_by node.op (to.Literal h.entries) node.ty _ h.op (typed_Literal known h.entries node.ty) (is_literal ty es node h)
   op_typed (Join' _ (more_of-AstNode i a end_of-AstNode) _ (more_of-AstNode j b end_of-AstNode)) node h =
-      typed_by node.op (to.Join h.0 h.1) node.ty _ h.2 (typed_Join known h.0 h.1 node.ty) (h.3, op_typed a h.0 h.4, op_typed b h.1 h.5)
+      typed_by node.op (to.Join h.0 h.1) node.ty _ h.2 (typed_Join known h.0 h.1 node.ty) (is_join_type h.0.ty h.1.ty node.ty h.3, op_typed a h.0 h.4, op_typed b h.1 h.5)
   op_typed (Union' _ (more_of-AstNode i a end_of-AstNode) _ (more_of-AstNode j b end_of-AstNode)) node h =
-      typed_by node.op (to.Union h.0 h.1) node.ty _ h.2 (typed_Union known h.0 h.1 node.ty) (h.3, op_typed a h.0 h.4, op_typed b h.1 h.5)
+      typed_by node.op (to.Union h.0 h.1) node.ty _ h.2 (typed_Union known h.0 h.1 node.ty) (is_union_type h.0.ty h.1.ty node.ty h.3, op_typed a h.0 h.4, op_typed b h.1 h.5)
   op_typed (Agg' _ (more_of-AstNode i a end_of-AstNode) ks) node h =
-      typed_by node.op (to.Agg h.0 (plain ks)) node.ty _ h.1 (typed_Agg known h.0 (plain ks) node.ty) (h.2, op_typed a h.0 h.3)
+      typed_by node.op (to.Agg h.0 (plain ks)) node.ty _ h.1 (typed_Agg known h.0 (plain ks) node.ty) (is_agg_type h.0.ty (plain ks) node.ty h.2, op_typed a h.0 h.3)
   op_typed (Map' _ (more_of-AstNode i a end_of-AstNode) defs) node h = absurd h
   op_typed (Filter' _ (more_of-AstNode i a end_of-AstNode) test) node h = absurd h
   op_typed (Promote' _ (more_of-AstNode i a end_of-AstNode) def) node h = absurd h

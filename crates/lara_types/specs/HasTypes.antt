@@ -1,6 +1,6 @@
 -- Which typed script a tree stands for, with no walk and no sequence of rules: each node has what is written, and its
 -- columns by the rules.
-use Rattle.std.specs.Prelude.{◌≡◌, ◌<◌, ◌-◌, ◌^◌, true, List, [], ◌∷◌, map, Option, Some, None, Ok}
+use Rattle.std.specs.Prelude.{◌≡◌, ◌<◌, ◌-◌, ◌^◌, true, List, [], ◌∷◌, Option, Some, None}
 use Rattle.lara_key.specs.declared.key.KeyType.{KeyType}
 use Rattle.lara_key.specs.declared.key.KeyType.TheVariants as key_type
 use Rattle.lara_key.specs.declared.key.KeyVal.{KeyVal}
@@ -20,7 +20,7 @@ use Rattle.lara_data.specs.KeyedTables.{Row}
 use Rattle.lara_data.specs.Names.{Name, Tuple}
 use Rattle.lara_data.specs.Tables.{Entries}
 use Rattle.lara_data.specs.TableTypes.{Columns, key_names, are_columns}
-use Rattle.lara_data.specs.TypeRules.{join_type, union_type, agg_type}
+use Rattle.lara_data.specs.TypeRuleLaws.{IsJoin, IsUnion, IsAgg}
 use Rattle.lara_data.specs.TypedScripts.{is_order, known_after}
 use Rattle.lara_data.specs.TypedTrees.{type_named}
 use Rattle.lara_syntax.specs.declared.ast.Ast.{Ast}
@@ -36,8 +36,7 @@ use Rattle.lara_syntax.specs.declared.ast.AstStatement.TheVariants as ast
 use Rattle.lara_syntax.specs.declared.ast.AstType.{AstType}
 use Rattle.lara_syntax.specs.declared.ast.AstValue.{AstValue}
 use Rattle.lara_syntax.specs.declared.ast.AstValue.TheVariants.{Number}
-use Rattle.lara_types.specs.CheckedTrees.{plain}
-use Rattle.lara_types.specs.LiteralTypes.{key_col, val_col}
+use Rattle.lara_types.specs.Written.{plain, columns}
 
 -- ---- literals
 
@@ -69,10 +68,6 @@ AreEntries ty [] [] = Unit {0}
 AreEntries ty (x ∷ xs) (e ∷ es) = AreKeys ty.keys x.key e.key × AreVals ty.vals x.row e.row × AreEntries ty xs es
 AreEntries ty xs es = ⊥
 
--- the columns without places
-abbrev pub columns : AstType → Columns
-columns ty = record { keys = map key_col ty.keys; vals = map val_col ty.vals }
-
 -- the literal has the columns that are written, which are a table's, and the entries
 pub record LiteralHas (ty : AstType) (xs : List AstEntry) (node : Node) : Type 0 where
   pub entries : Entries
@@ -90,11 +85,11 @@ OpHas stored known (Load n) node = (node.op ≡ to.Load n.name) × (type_named n
 OpHas stored known (Named n) node = (node.op ≡ to.Named n.name) × (type_named n.name known ≡ Some node.ty)
 OpHas stored known (Literal ty es) node = LiteralHas ty es node
 OpHas stored known (Join' _ (more_of-AstNode i a end_of-AstNode) _ (more_of-AstNode j b end_of-AstNode)) node =
-    (x : Node) × (y : Node) × (node.op ≡ to.Join x y) × (join_type x.ty y.ty ≡ Ok node.ty) × OpHas stored known a x × OpHas stored known b y
+    (x : Node) × (y : Node) × (node.op ≡ to.Join x y) × IsJoin x.ty y.ty node.ty × OpHas stored known a x × OpHas stored known b y
 OpHas stored known (Union' _ (more_of-AstNode i a end_of-AstNode) _ (more_of-AstNode j b end_of-AstNode)) node =
-    (x : Node) × (y : Node) × (node.op ≡ to.Union x y) × (union_type x.ty y.ty ≡ Ok node.ty) × OpHas stored known a x × OpHas stored known b y
+    (x : Node) × (y : Node) × (node.op ≡ to.Union x y) × IsUnion x.ty y.ty node.ty × OpHas stored known a x × OpHas stored known b y
 OpHas stored known (Agg' _ (more_of-AstNode i a end_of-AstNode) ks) node =
-    (x : Node) × (node.op ≡ to.Agg x (plain ks)) × (agg_type x.ty (plain ks) ≡ Ok node.ty) × OpHas stored known a x
+    (x : Node) × (node.op ≡ to.Agg x (plain ks)) × IsAgg x.ty (plain ks) node.ty × OpHas stored known a x
 OpHas stored known (Map' _ (more_of-AstNode i a end_of-AstNode) defs) node = ⊥
 OpHas stored known (Filter' _ (more_of-AstNode i a end_of-AstNode) test) node = ⊥
 OpHas stored known (Promote' _ (more_of-AstNode i a end_of-AstNode) def) node = ⊥

@@ -1,13 +1,9 @@
--- The columns of a literal, and the first refusal of those that are no type.
-use Rattle.std.specs.Prelude.{ℕ, if◌then◌else◌, List, [], ◌∷◌, ◌++◌, map, Option, Some, None, Ok}
-use Rattle.lara_data.specs.declared.refusal.Kind.TheVariants.{NameTwice, TooManyColumns}
+-- The names of a literal's columns, one after the other.
+use Rattle.std.specs.Prelude.{ℕ, if◌then◌else◌, List, [], ◌∷◌, ◌++◌, Ok}
+use Rattle.lara_data.specs.declared.refusal.Kind.TheVariants.{NameTwice}
 use Rattle.lara_syntax.specs.declared.ast.AstName.{AstName}
-use Rattle.lara_syntax.specs.declared.ast.AstType.{AstType}
 use Rattle.lara_syntax.specs.declared.ast.AstKeyCol.{AstKeyCol}
 use Rattle.lara_syntax.specs.declared.ast.AstValCol.{AstValCol}
-use Rattle.lara_data.specs.declared.table_type.KeyCol.{KeyCol}
-use Rattle.lara_data.specs.declared.table_type.ValCol.{ValCol}
-use Rattle.lara_data.specs.TableTypes.{Columns, typed_columns}
 use Rattle.lara_data.specs.Names.{has}
 use Rattle.lara_base.specs.Results.{◌>>=◌}
 use Rattle.lara_types.specs.Walks.{walk}
@@ -38,23 +34,3 @@ unfoldable pub distinct_names : List AstKeyCol → List AstValCol → Judged (Li
 distinct_names keys vals = do
   names ← walk one_more_key [] keys
   walk one_more_val names vals
-
--- a key column without places
-abbrev pub key_col : AstKeyCol → KeyCol
-key_col c = record { name = c.name.name; ty = c.ty }
-
--- a value column without places
-abbrev pub val_col : AstValCol → ValCol
-val_col c = record { name = c.name.name; ty = c.ty }
-
--- the columns, or the refusal where they are too many
-abbrev pub few_enough : ℕ → Option Columns → Judged Columns
-few_enough at None = refused at TooManyColumns
-few_enough at (Some ty) = Ok ty
-
--- The type of a literal whose first word is at this place. Names that differ, and a value column as the grammar has it,
--- are no type only where they are too many.
-unfoldable pub literal_type : ℕ → AstType → Judged Columns
-literal_type at ty = do
-  names ← distinct_names ty.keys ty.vals
-  few_enough at (typed_columns (map key_col ty.keys) (map val_col ty.vals))

@@ -1,23 +1,25 @@
-//! The place at which an agg breaks a rule.
+//! The first rule of an agg that is broken.
 ghost use Rattle.std.specs.Prelude.{◌≡◌, []};
 ghost use Rattle.std.specs.List.{list_any};
 ghost use Rattle.std.specs.Str.{bytes_eq};
-ghost use Rattle.lara_types.specs.CheckedTrees.{stranger, repeated, agg_place};
+ghost use Rattle.lara_types.specs.NodeRules.{key_rules, once_rules, agg_rules};
+ghost use Rattle.lara_types.specs.Rules.{first_broken};
 
-use lara_base::{List, Name};
-use lara_data::{KeyCol, Kind, TableType, is_key_name};
+use crate::refuse::refusal;
+use lara_base::Name;
+use lara_data::{KeyCol, Kind, Refusal, TableType, is_key_name};
 use lara_syntax::AstName;
 
-// The place of the first name that is no key column's, or `other`.
-fn stranger(keys: &[KeyCol], other: u32, names: &[AstName]) -> u32
-    ensures { result ≡ stranger keys.now other names.now }
+// At the first name that is no key column's.
+fn stranger(keys: &[KeyCol], names: &[AstName]) -> Option<Refusal>
+    ensures { result ≡ first_broken (key_rules keys.now names.now) }
 {
     for name in names {
         if !is_key_name(keys, &name.name) {
-            return name.at;
+            return Some(refusal(name.at, Kind::NotAKey));
         }
     }
-    other
+    None
 }
 
 // Whether a name is among others at their places.
@@ -27,28 +29,29 @@ fn is_among(names: &[AstName], name: &Name) -> bool
     names.iter().any(|n| name.same(&n.name))
 }
 
-// The place of the first name that stands among those before it, or `other`. It ends at the first repeat, so where all
-// are names of k columns, it takes at most k + 1 turns.
-fn repeated(other: u32, names: &[AstName]) -> u32
-    ensures { result ≡ repeated [] other names.now }
+// At the first name that stands among those before it. It ends at the first repeat, so where all are names of k columns, it
+// takes at most k + 1 turns.
+fn repeated(names: &[AstName]) -> Option<Refusal>
+    ensures { result ≡ first_broken (once_rules [] names.now) }
 {
     let mut before = 0;
     while before < names.len() {
         let name = &names[before];
         if is_among(&names[..before], &name.name) {
-            return name.at;
+            return Some(refusal(name.at, Kind::NameTwice));
         }
         before += 1;
     }
-    other
+    None
 }
 
-/// Where an agg breaks the rule of this kind, or at `at`.
-pub fn agg_place(ty: &TableType, at: u32, names: &List<AstName>, kind: Kind) -> u32
-    ensures { result ≡ agg_place ty.now at names.now kind }
+/// The refusal of the first rule that is broken: each name is a key column's, and then none stands twice.
+#[tactic(auto, using(crate::specs::RuleLaws::sequence_rules))]
+pub fn agg_refusal(ty: &TableType, names: &[AstName]) -> Option<Refusal>
+    ensures { result ≡ first_broken (agg_rules ty.now names.now) }
 {
-    match kind {
-        Kind::NotAKey => stranger(ty.keys.as_slice(), at, names.as_slice()),
-        _ => repeated(at, names.as_slice()),
+    match stranger(ty.keys.as_slice(), names) {
+        Some(refusal) => Some(refusal),
+        None => repeated(names),
     }
 }

@@ -1,19 +1,22 @@
-//! The entries of a literal: as many literals as columns, of their kinds and in their ranges.
-ghost use Rattle.std.specs.Prelude.{◌≡◌, [], ◌++◌, ◌∷◌, length, true, IfErr, IfOk, IfSome};
+//! The entries of a literal: as many literals as columns, of their kinds and in their ranges. The rules are looked at before
+//! anything is made of an entry.
+ghost use Rattle.std.specs.Prelude.{◌≡◌, [], ◌++◌, ◌∷◌, length, map, true, IfOk};
 ghost use Rattle.lara_semiring.specs.Rows.{row_has};
-ghost use Rattle.lara_types.specs.Walks.{walk};
 ghost use Rattle.lara_data.specs.KeyedTables.{all_have};
 ghost use Rattle.lara_data.specs.TableTypes.{types};
-ghost use Rattle.lara_data.specs.Judgements.{Judges, NotMemory};
-ghost use Rattle.lara_types.specs.LiteralEntries.{is_key_lit, is_val_lit, wrong_key_lit, wrong_val_lit, key_of, val_of, keys_from, vals_from, values_of, first_place, is_whole, entry_of, one_more_entry};
+ghost use Rattle.lara_data.specs.Judgements.{Judges};
+ghost use Rattle.lara_types.specs.Literals.{is_key_lit, is_val_lit, is_in_range, is_whole};
+ghost use Rattle.lara_types.specs.LiteralValues.{key_value, row_value, key_values, row_values, entry_value};
+ghost use Rattle.lara_types.specs.NodeRules.{key_kind_rules, val_kind_rules, range_rules, entry_rules, entries_rules};
+ghost use Rattle.lara_types.specs.Rules.{first_broken, by_rules};
 
-use crate::refuse::refused;
+use crate::refuse::refusal;
 use lara_base::List;
-use lara_data::{Entry, KeyCol, Kind, ReadFault, TableType, ValCol};
+use lara_data::{Entry, KeyCol, Kind, ReadFault, Refusal, TableType, ValCol};
 use lara_key::{KeyType, KeyVal, Tuple};
 use lara_semiring::{Row, ValType, Value};
 use lara_syntax::{AstEntry, AstLit, AstValue};
-use std::alloc::Global;
+use std::alloc::{AllocError, Global};
 
 // Whether a literal is of the kind that a key column takes.
 fn is_key_lit(ty: KeyType, value: &AstValue) -> bool
@@ -35,10 +38,20 @@ fn is_val_lit(ty: ValType, value: &AstValue) -> bool
     }
 }
 
-// The place of the first literal of the wrong kind for its key column.
-#[tactic(auto, unfolding(crate::specs::LiteralEntries::wrong_key_lit))]
-fn wrong_key_lit(cols: &[KeyCol], lits: &[AstLit]) -> Option<u32>
-    ensures { result ≡ wrong_key_lit cols.now lits.now }
+// Whether a number is none that stands for all past the range.
+fn is_in_range(value: &AstValue) -> bool
+    ensures { result ≡ is_in_range value.now }
+{
+    match value {
+        AstValue::Number(n) => *n < u64::MAX,
+        _ => true,
+    }
+}
+
+// At the first literal of the wrong kind for its key column.
+#[tactic(auto, unfolding(crate::specs::Rules::first_broken, crate::specs::NodeRules::key_kind_rules))]
+fn wrong_key(cols: &[KeyCol], lits: &[AstLit]) -> Option<Refusal>
+    ensures { result ≡ first_broken (key_kind_rules cols.now lits.now) }
 {
     let [col, cols @ ..] = cols else {
         return None;
@@ -47,16 +60,16 @@ fn wrong_key_lit(cols: &[KeyCol], lits: &[AstLit]) -> Option<u32>
         return None;
     };
     if is_key_lit(col.ty, &lit.value) {
-        wrong_key_lit(cols, lits)
+        wrong_key(cols, lits)
     } else {
-        Some(lit.at)
+        Some(refusal(lit.at, Kind::TypesDiffer))
     }
 }
 
-// The place of the first literal of the wrong kind for its value column.
-#[tactic(auto, unfolding(crate::specs::LiteralEntries::wrong_val_lit))]
-fn wrong_val_lit(cols: &[ValCol], lits: &[AstLit]) -> Option<u32>
-    ensures { result ≡ wrong_val_lit cols.now lits.now }
+// At the first literal of the wrong kind for its value column.
+#[tactic(auto, unfolding(crate::specs::Rules::first_broken, crate::specs::NodeRules::val_kind_rules))]
+fn wrong_val(cols: &[ValCol], lits: &[AstLit]) -> Option<Refusal>
+    ensures { result ≡ first_broken (val_kind_rules cols.now lits.now) }
 {
     let [col, cols @ ..] = cols else {
         return None;
@@ -65,95 +78,46 @@ fn wrong_val_lit(cols: &[ValCol], lits: &[AstLit]) -> Option<u32>
         return None;
     };
     if is_val_lit(col.ty, &lit.value) {
-        wrong_val_lit(cols, lits)
+        wrong_val(cols, lits)
     } else {
-        Some(lit.at)
+        Some(refusal(lit.at, Kind::TypesDiffer))
     }
 }
 
-// The key column that a literal stands for.
-fn key_of(ty: KeyType, lit: &AstLit) -> Result<KeyVal, ReadFault>
-    ensures gives { Judges (λ k. k) (key_of ty lit.now.at lit.now.value) result }
-    ensures sure { IfErr result NotMemory }
+// At the first number that is past its range.
+#[tactic(auto, unfolding(crate::specs::Rules::first_broken, crate::specs::NodeRules::range_rules))]
+fn past_range(lits: &[AstLit]) -> Option<Refusal>
+    ensures { result ≡ first_broken (range_rules lits.now) }
 {
-    match (ty, &lit.value) {
-        (KeyType::Nat, AstValue::Number(n)) => {
-            if *n < u64::MAX {
-                Ok(KeyVal::Nat(*n))
-            } else {
-                Err(refused(lit.at, Kind::NotInRange))
-            }
-        }
-        (KeyType::Nat, _) => Err(refused(lit.at, Kind::TypesDiffer)),
-    }
-}
-
-// The value that a literal stands for.
-fn val_of(ty: ValType, lit: &AstLit) -> Result<Value, ReadFault>
-    ensures gives { Judges (λ v. v) (val_of ty lit.now.at lit.now.value) result }
-    ensures sure { IfErr result NotMemory }
-{
-    match (ty, &lit.value) {
-        (ValType::Count, AstValue::Number(n)) => {
-            if *n < u64::MAX {
-                Ok(Value::Count(*n))
-            } else {
-                Err(refused(lit.at, Kind::NotInRange))
-            }
-        }
-        (ValType::Count, _) => Err(refused(lit.at, Kind::TypesDiffer)),
-    }
-}
-
-// The key columns behind those that are read.
-#[tactic(auto, unfolding(crate::specs::LiteralEntries::keys_from))]
-fn keys_from(done: Tuple, cols: &[KeyCol], lits: &[AstLit]) -> Result<Tuple, ReadFault>
-    ensures { Judges (λ k. k) (keys_from done cols.now lits.now) result }
-{
-    let [col, cols @ ..] = cols else {
-        return Ok(done);
-    };
     let [lit, lits @ ..] = lits else {
-        return Ok(done);
+        return None;
     };
-    let mut done = done;
-    done.push(key_of(col.ty, lit)?)?;
-    keys_from(done, cols, lits)
+    if is_in_range(&lit.value) {
+        past_range(lits)
+    } else {
+        Some(refusal(lit.at, Kind::NotInRange))
+    }
 }
 
-// The value columns behind those that are read.
-#[tactic(auto, unfolding(crate::specs::LiteralEntries::vals_from))]
-fn vals_from(done: Row, cols: &[ValCol], lits: &[AstLit]) -> Result<Row, ReadFault>
-    ensures { Judges (λ r. r) (vals_from done cols.now lits.now) result }
+// At the first literal of the wrong kind, in the key and then in the row.
+#[tactic(auto, using(crate::specs::RuleLaws::sequence_rules))]
+fn wrong_kind(ty: &TableType, entry: &AstEntry) -> Option<Refusal>
+    ensures { result ≡ first_broken (key_kind_rules ty.now.keys entry.now.key ++ val_kind_rules ty.now.vals entry.now.row) }
 {
-    let [col, cols @ ..] = cols else {
-        return Ok(done);
-    };
-    let [lit, lits @ ..] = lits else {
-        return Ok(done);
-    };
-    let mut done = done;
-    done.push(val_of(col.ty, lit)?)?;
-    vals_from(done, cols, lits)
+    match wrong_key(ty.keys.as_slice(), entry.key.as_slice()) {
+        Some(refusal) => Some(refusal),
+        None => wrong_val(ty.vals.as_slice(), entry.row.as_slice()),
+    }
 }
 
-// The key and the row of an entry.
-#[tactic(auto, unfolding(crate::specs::LiteralEntries::values_of))]
-fn values_of(alloc: Global, ty: &TableType, entry: &AstEntry) -> Result<Entry, ReadFault>
-    ensures { Judges (λ e. e) (values_of ty.now entry.now) result }
+// At the first number that is past its range, in the key and then in the row.
+#[tactic(auto, using(crate::specs::RuleLaws::sequence_rules))]
+fn past_ranges(entry: &AstEntry) -> Option<Refusal>
+    ensures { result ≡ first_broken (range_rules entry.now.key ++ range_rules entry.now.row) }
 {
-    let key = keys_from(List::new(alloc), ty.keys.as_slice(), entry.key.as_slice())?;
-    let row = vals_from(List::new(alloc), ty.vals.as_slice(), entry.row.as_slice())?;
-    Ok(Entry { key, row })
-}
-
-// The place of the first literal of the wrong kind for its column, in the key or else in the row.
-fn wrong_lit(ty: &TableType, entry: &AstEntry) -> Option<u32>
-    ensures { result ≡ first_place (wrong_key_lit ty.now.keys entry.now.key) (wrong_val_lit ty.now.vals entry.now.row) }
-{
-    match wrong_key_lit(ty.keys.as_slice(), entry.key.as_slice()) {
-        Some(at) => Some(at),
-        None => wrong_val_lit(ty.vals.as_slice(), entry.row.as_slice()),
+    match past_range(entry.key.as_slice()) {
+        Some(refusal) => Some(refusal),
+        None => past_range(entry.row.as_slice()),
     }
 }
 
@@ -164,18 +128,89 @@ fn is_whole(ty: &TableType, entry: &AstEntry) -> bool
     entry.key.len() == ty.keys.len() && entry.row.len() == ty.vals.len()
 }
 
-// An entry of a literal.
-#[tactic(auto, unfolding(crate::specs::LiteralEntries::entry_of))]
-fn entry_of(alloc: Global, ty: &TableType, entry: &AstEntry) -> Result<Entry, ReadFault>
-    ensures gives { Judges (λ e. e) (entry_of ty.now entry.now) result }
-    ensures typed { IfOk result (λ e. row_has (types ty.now.vals) e.row ≡ true) }
+// At the first rule of an entry that is broken.
+#[tactic(auto, using(crate::specs::RuleLaws::sequence_rules), unfolding(crate::specs::Rules::first_broken))]
+fn entry_refusal(ty: &TableType, entry: &AstEntry) -> Option<Refusal>
+    ensures { result ≡ first_broken (entry_rules ty.now entry.now) }
 {
     if !is_whole(ty, entry) {
-        return Err(refused(entry.at, Kind::TypesDiffer));
+        return Some(refusal(entry.at, Kind::TypesDiffer));
     }
-    match wrong_lit(ty, entry) {
-        Some(at) => Err(refused(at, Kind::TypesDiffer)),
-        None => values_of(alloc, ty, entry),
+    match wrong_kind(ty, entry) {
+        Some(refusal) => Some(refusal),
+        None => past_ranges(entry),
+    }
+}
+
+// The key value of a literal; of one of another kind it is some value.
+fn key_of(ty: KeyType, value: &AstValue) -> KeyVal
+    ensures { result ≡ key_value ty value.now }
+{
+    match (ty, value) {
+        (KeyType::Nat, AstValue::Number(n)) => KeyVal::Nat(*n),
+        (KeyType::Nat, _) => KeyVal::Nat(0),
+    }
+}
+
+// The value of a literal; of one of another kind it is some value.
+fn value_of(ty: ValType, value: &AstValue) -> Value
+    ensures { result ≡ row_value ty value.now }
+{
+    match (ty, value) {
+        (ValType::Count, AstValue::Number(n)) => Value::Count(*n),
+        (ValType::Count, _) => Value::Count(0),
+    }
+}
+
+// The key values behind those that are read.
+#[tactic(auto, using(crate::proofs::EntryValues::behind_rules), unfolding(crate::specs::LiteralValues::key_values))]
+fn keys_from(done: Tuple, cols: &[KeyCol], lits: &[AstLit]) -> Result<Tuple, AllocError>
+    ensures { IfOk result (λ k. k ≡ done ++ key_values cols.now lits.now) }
+{
+    let [col, cols @ ..] = cols else {
+        return Ok(done);
+    };
+    let [lit, lits @ ..] = lits else {
+        return Ok(done);
+    };
+    let mut done = done;
+    done.push(key_of(col.ty, &lit.value))?;
+    keys_from(done, cols, lits)
+}
+
+// The values behind those that are read.
+#[tactic(auto, using(crate::proofs::EntryValues::behind_rules), unfolding(crate::specs::LiteralValues::row_values))]
+fn vals_from(done: Row, cols: &[ValCol], lits: &[AstLit]) -> Result<Row, AllocError>
+    ensures { IfOk result (λ r. r ≡ done ++ row_values cols.now lits.now) }
+{
+    let [col, cols @ ..] = cols else {
+        return Ok(done);
+    };
+    let [lit, lits @ ..] = lits else {
+        return Ok(done);
+    };
+    let mut done = done;
+    done.push(value_of(col.ty, &lit.value))?;
+    vals_from(done, cols, lits)
+}
+
+// The key and the row of an entry.
+fn values_of(alloc: Global, ty: &TableType, entry: &AstEntry) -> Result<Entry, AllocError>
+    ensures { IfOk result (λ e. e ≡ entry_value ty.now entry.now) }
+{
+    let key = keys_from(List::new(alloc), ty.keys.as_slice(), entry.key.as_slice())?;
+    let row = vals_from(List::new(alloc), ty.vals.as_slice(), entry.row.as_slice())?;
+    Ok(Entry { key, row })
+}
+
+// An entry of a literal.
+fn entry_of(alloc: Global, ty: &TableType, entry: &AstEntry) -> Result<Entry, ReadFault>
+    ensures gives { Judges (λ e. e) (by_rules (entry_rules ty.now entry.now) (entry_value ty.now entry.now)) result }
+    ensures typed { IfOk result (λ e. row_has (types ty.now.vals) e.row ≡ true) }
+{
+    match entry_refusal(ty, entry) {
+        Some(refusal) => Err(ReadFault::Refused(refusal)),
+        None => Ok(values_of(alloc, ty, entry)?),
     }
 }
 
@@ -185,7 +220,7 @@ pub fn entries_of(
     ty: &TableType,
     entries: &List<AstEntry>,
 ) -> Result<List<Entry>, ReadFault>
-    ensures gives { Judges (λ es. es) (walk (one_more_entry ty.now) [] entries.now) result }
+    ensures gives { Judges (λ es. es) (by_rules (entries_rules ty.now entries.now) (map (entry_value ty.now) entries.now)) result }
     ensures typed { IfOk result (λ es. all_have (types ty.now.vals) es ≡ true) }
 {
     let mut read = List::new(alloc);

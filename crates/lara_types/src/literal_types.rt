@@ -1,10 +1,11 @@
 //! The type of a literal: columns whose names differ, and few enough.
-ghost use Rattle.std.specs.Prelude.{◌≡◌, [], ◌∷◌, ◌++◌, ℕ, List, map, OnOk, Some};
-ghost use Rattle.lara_data.specs.TableTypes.{typed_columns};
-ghost use Rattle.lara_types.specs.Walks.{walk};
+ghost use Rattle.std.specs.Prelude.{◌≡◌, [], ◌∷◌, ◌++◌, ℕ, List, map, OnOk};
 ghost use Rattle.lara_data.specs.Judgements.{Judges};
-ghost use Rattle.lara_types.specs.LiteralTypes.{one_more_name, one_more_key, one_more_val, distinct_names, key_col, val_col, key_col_name, val_col_name, few_enough, literal_type};
+ghost use Rattle.lara_types.specs.LiteralTypes.{one_more_name, distinct_names, key_col_name, val_col_name};
+ghost use Rattle.lara_types.specs.NodeRules.{column_rules};
+ghost use Rattle.lara_types.specs.Rules.{by_rules};
 ghost use Rattle.lara_types.specs.Seen.{Holds};
+ghost use Rattle.lara_types.specs.Written.{key_col, val_col, columns};
 
 use crate::refuse::refused;
 use lara_base::{Bytes, Copied, List};
@@ -71,9 +72,8 @@ fn val_cols(alloc: Global, vals: &List<AstValCol>) -> Result<List<ValCol>, ReadF
 }
 
 /// The type of a literal whose first word is at `at`.
-#[tactic(auto, unfolding(crate::specs::LiteralTypes::literal_type))]
 pub fn literal_type(alloc: Global, at: u32, ty: &AstType) -> Result<TableType, ReadFault>
-    ensures { Judges (λ t. t) (literal_type at ty.now) result }
+    ensures { Judges (λ t. t) (by_rules (column_rules at ty.now) (columns ty.now)) result }
 {
     check_names(alloc, &ty.keys, &ty.vals)?;
     let keys = key_cols(alloc, &ty.keys)?;

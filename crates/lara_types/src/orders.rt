@@ -2,8 +2,10 @@
 ghost use Rattle.std.specs.Prelude.{◌≡◌, map, None, Some, Ok};
 ghost use Rattle.std.specs.List.{list_all};
 ghost use Rattle.lara_data.specs.Names.{has};
-ghost use Rattle.lara_types.specs.Checks.{order_of};
-ghost use Rattle.lara_types.specs.CheckedTrees.{plain};
+ghost use Rattle.lara_types.specs.Checks.{order_in};
+ghost use Rattle.lara_types.specs.NodeRules.{order_rules};
+ghost use Rattle.lara_types.specs.Rules.{by_rules};
+ghost use Rattle.lara_types.specs.Written.{plain};
 ghost use Rattle.lara_data.specs.Judgements.{Judges};
 ghost use Rattle.lara_data.specs.TypedScripts.{is_order};
 
@@ -41,8 +43,9 @@ fn is_order(order: &[Name], keys: &[Name]) -> bool
 }
 
 /// The order of a print over a table of this type: the declared one, or the one behind `by`.
+#[tactic(auto, unfolding(crate::specs::Rules::first_broken))]
 pub fn order_of(alloc: Global, ty: &TableType, by: &Option<AstBy>) -> Result<List<Name>, ReadFault>
-    ensures { Judges (λ ns. ns) (order_of ty.now by.now) result }
+    ensures { Judges (λ ns. ns) (by_rules (order_rules (Some ty.now) by.now) (order_in ty.now by.now)) result }
 {
     let keys = key_names(alloc, &ty.keys)?;
     let Some(by) = by else {

@@ -1,5 +1,6 @@
 //! The types of joins, unions and aggs: the columns of the result, or the kind of the first rule that is broken.
-ghost use Rattle.std.specs.Prelude.{◌≡◌, ◌&&◌, not, IfOk, IsOk, IsTrue};
+ghost use Rattle.std.specs.Prelude.{◌≡◌, ◌&&◌, true, not, IfOk, IsOk, IsTrue};
+ghost use Rattle.lara_data.specs.Algebra.{agg_columns};
 ghost use Rattle.lara_data.specs.Names.{among, distinct};
 ghost use Rattle.lara_data.specs.TableTypes.{key_names};
 ghost use Rattle.lara_data.specs.TypeRules.{types_differ, is_none, too_many, join_type, union_type, agg_type};
@@ -66,6 +67,17 @@ pub fn type_union(alloc: Global, a: &TableType, b: &TableType) -> Typed
     Ok(Ok(TableType { keys, vals }))
 }
 
+/// The type of an agg by these names, which are key columns' and differ.
+pub fn agg_type(alloc: Global, a: &TableType, keys: &List<Name>) -> Result<TableType, AllocError>
+    requires keys { among (key_names a.now.keys) keys.now ≡ true }
+    requires once { distinct keys.now ≡ true }
+    ensures { IfOk result (λ t. t ≡ agg_columns a.now keys.now) }
+{
+    let keys = key_cols(alloc, &a.keys, keys)?;
+    let vals = a.vals.copy(alloc)?;
+    Ok(TableType { keys, vals })
+}
+
 /// Of an agg: a name that is no key column's first, then a name that stands twice.
 #[tactic(auto, unfolding(lara_data::specs::TypeRules::agg_type))]
 pub fn type_agg(alloc: Global, a: &TableType, keys: &List<Name>) -> Typed
@@ -78,7 +90,5 @@ pub fn type_agg(alloc: Global, a: &TableType, keys: &List<Name>) -> Typed
     if !are_distinct(keys.as_slice()) {
         return Ok(Err(Kind::NameTwice));
     }
-    let keys = key_cols(alloc, &a.keys, keys)?;
-    let vals = a.vals.copy(alloc)?;
-    Ok(Ok(TableType { keys, vals }))
+    Ok(Ok(agg_type(alloc, a, keys)?))
 }

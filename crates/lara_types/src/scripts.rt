@@ -1,5 +1,6 @@
 //! The typed script of a tree with places: statement by statement, each where the names of those before it are known.
-ghost use Rattle.std.specs.Prelude.{◌≡◌, ℕ, true, List, map, length, Ok, IfOk, OnOk};
+ghost use Rattle.std.specs.Prelude.{◌≡◌, ℕ, true, List, map, length, Ok, Err, IfOk, IfErr, OnOk};
+ghost use Rattle.lara_data.specs.declared.refusal.Refusal.{Refusal};
 ghost use Rattle.lara_data.specs.declared.script.Statement.{Statement as TypedStatement};
 ghost use Rattle.lara_data.specs.Denotations.{Database};
 ghost use Rattle.lara_data.specs.Fits.{ScriptFits, TablesOf};
@@ -8,6 +9,7 @@ ghost use Rattle.lara_data.specs.Plugins.{handed};
 ghost use Rattle.lara_data.specs.TypedScripts.{known_after};
 ghost use Rattle.lara_types.specs.Checks.{checked_statement, checked};
 ghost use Rattle.lara_types.specs.HasTypes.{HasTypes};
+ghost use Rattle.lara_types.specs.Refused.{Refused as WhyRefused, RefusedRight};
 ghost use Rattle.lara_data.specs.Judgements.{Judges};
 ghost use Rattle.lara_types.specs.Sizes.{all_written, all_typed};
 
@@ -125,8 +127,13 @@ pub fn check(
     ensures found { IfOk result (λ ss. HasTypes stored.now tree.now ss) }
     // Whatever the tree stands for is answered, so that no such tree is refused (specs/HasTypes.antt).
     ensures only { (ss : List TypedStatement) → HasTypes stored.now tree.now ss → Judges (λ s. s) (Ok ss) result }
-    // A refusal is the first in the order of the rules: its place and its kind (specs/Checks.antt; in words the table under
-    // "Refusals" in docs/LANGUAGE.md).
+    // A refusal is that of the first rule that is broken, at the first node of the first statement that has one
+    // (specs/Refused.antt; in words the table under "Refusals" in docs/LANGUAGE.md).
+    ensures refused { IfErr result (λ e. RefusedRight stored.now tree.now e) }
+    // There is one such refusal at most, and where there is one it is answered, unless memory runs out.
+    ensures only_refusal { (refusal : Refusal) → WhyRefused stored.now tree.now refusal → Judges (λ s. s) (Err refusal) result }
+    // The same of a definition that computes (specs/Checks.antt): it follows from the four above, by specs/Found.antt, Only.antt
+    // and RefusedLaws.antt.
     ensures exact { Judges (λ s. s) (checked stored.now tree.now) result }
     // No statement is lost or added.
     ensures statements { IfOk result (λ ss. length ss ≡ length tree.now.statements) }

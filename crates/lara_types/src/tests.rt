@@ -1,6 +1,7 @@
 //! The rules where there is memory, with types and kinds worked out by hand.
 ghost use Rattle.std.specs.Prelude.{◌≡◌, ◌∷◌, [], IfOk};
 
+use crate::tests_made::both;
 use crate::{Typed, type_agg, type_join, type_union};
 use lara_base::{List, Name};
 use lara_data::{KeyCol, Kind, TableType, ValCol};
@@ -23,41 +24,53 @@ fn names(alloc: Global, letters: &[u8]) -> Result<List<Name>, AllocError> {
     Ok(names)
 }
 
-// The type with these key columns and value columns, each a letter.
-pub fn columns(alloc: Global, key_names: &[u8], val_names: &[u8]) -> Result<TableType, AllocError> {
+fn key_cols(alloc: Global, letters: &[u8]) -> Result<List<KeyCol>, AllocError> {
     let mut keys = List::new(alloc);
-    for letter in key_names {
+    for letter in letters {
         keys.push(KeyCol {
             name: name(alloc, *letter)?,
             ty: KeyType::Nat,
         })?;
     }
+    Ok(keys)
+}
+
+fn val_cols(alloc: Global, letters: &[u8]) -> Result<List<ValCol>, AllocError> {
     let mut vals = List::new(alloc);
-    for letter in val_names {
+    for letter in letters {
         vals.push(ValCol {
             name: name(alloc, *letter)?,
             ty: ValType::Count,
         })?;
     }
+    Ok(vals)
+}
+
+// The type with these key columns and value columns, each a letter.
+pub fn columns(alloc: Global, key_names: &[u8], val_names: &[u8]) -> Result<TableType, AllocError> {
+    let (keys, vals) = both(key_cols(alloc, key_names), val_cols(alloc, val_names))?;
     TableType::new(keys, vals).ok_or(AllocError)
+}
+
+// A type by its key columns and its value columns.
+fn type_of(alloc: Global, letters: [&[u8]; 2]) -> Result<TableType, AllocError> {
+    columns(alloc, letters[0], letters[1])
 }
 
 // The type of a join; each side is its key columns and its value columns.
 fn join_of(alloc: Global, a: [&[u8]; 2], b: [&[u8]; 2]) -> Typed {
-    let a = columns(alloc, a[0], a[1])?;
-    let b = columns(alloc, b[0], b[1])?;
+    let (a, b) = both(type_of(alloc, a), type_of(alloc, b))?;
     type_join(alloc, &a, &b)
 }
 
 fn union_of(alloc: Global, a: [&[u8]; 2], b: [&[u8]; 2]) -> Typed {
-    let a = columns(alloc, a[0], a[1])?;
-    let b = columns(alloc, b[0], b[1])?;
+    let (a, b) = both(type_of(alloc, a), type_of(alloc, b))?;
     type_union(alloc, &a, &b)
 }
 
 fn agg_of(alloc: Global, a: [&[u8]; 2], keys: &[u8]) -> Typed {
-    let a = columns(alloc, a[0], a[1])?;
-    type_agg(alloc, &a, &names(alloc, keys)?)
+    let (a, keys) = both(type_of(alloc, a), names(alloc, keys))?;
+    type_agg(alloc, &a, &keys)
 }
 
 // The names of the columns, keys first.

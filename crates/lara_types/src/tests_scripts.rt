@@ -23,134 +23,7 @@ fn checked(alloc: Global, tree: &Ast) -> Result<Script, ReadFault> {
     check(alloc, tree, &stored, &Vec::new(alloc))
 }
 
-fn refuses(checked: Result<Script, ReadFault>, at: u32, kind: Kind) -> bool {
-    match checked {
-        Ok(_) => false,
-        Err(ReadFault::Memory) => false,
-        Err(ReadFault::Refused(refusal)) => refusal.at == at && refusal.kind == kind,
-    }
-}
-
-fn is_accepted(checked: Result<Script, ReadFault>) -> bool {
-    checked.is_ok()
-}
-
-// Whether a statement assigns a literal with so many entries.
-fn assigns(statement: Option<&Statement>, entries: usize) -> bool {
-    match statement {
-        Some(Statement::Assign(_, node)) => match &node.op {
-            Op::Literal(es) => es.len() == entries,
-            _ => false,
-        },
-        _ => false,
-    }
-}
-
-fn copy_of<T: Copied>(alloc: Global, value: &T) -> Result<T, AllocError> {
-    value.copy(alloc)
-}
-
-// Whether a copy of the script assigns the same.
-fn copies(alloc: Global, script: &Script, entries: usize) -> bool {
-    match copy_of(alloc, script) {
-        Ok(copy) => assigns(copy.statements.as_slice().first(), entries),
-        Err(_) => false,
-    }
-}
-
-#[test]
-fn literals_and_prints_have_types(rt: HostRuntime) -> Result<(), Fail> {
-    let alloc = rt.alloc();
-    let tree = parse(alloc, b"T=table[k:nat:v:count]{1:2;3:4;};print T by k;")?;
-    match checked(alloc, &tree) {
-        Ok(script) => {
-            assert_eq!(rt; script.statements.len(), 2);
-            assert!(rt; assigns(script.statements.as_slice().first(), 2));
-            assert!(rt; copies(alloc, &script, 2));
-        }
-        Err(_) => assert!(rt; false),
-    }
-    Ok(())
-}
-
-// One stored table, B, with the key column k and the value column v.
-#[tactic(auto, unfolding(lara_data::specs::Names::distinct, lara_data::specs::Names::has))]
-fn one_stored(alloc: Global) -> Result<List<Schema>, AllocError>
-    ensures { IfOk result (λ ss. distinct (map (λ s. s.name) ss) ≡ true) }
-{
-    let mut stored = List::new(alloc);
-    stored.push(Schema {
-        name: name(alloc, b'B')?,
-        ty: columns(alloc, b"k", b"v")?,
-    })?;
-    Ok(stored)
-}
-
-// A script over the one stored table.
-fn checked_over_one(alloc: Global, script: &[u8]) -> Result<Script, ReadFault>
-    requires { length script.now ≤ 1048576 }
-{
-    let stored = one_stored(alloc)?;
-    let tree = parse(alloc, script)?;
-    check(alloc, &tree, &stored, &Vec::new(alloc))
-}
-
-#[test]
-fn loads_have_the_type_that_is_stored(rt: HostRuntime) {
-    let alloc = rt.alloc();
-    assert!(rt; is_accepted(checked_over_one(alloc, b"A=load B;print A by k;")));
-    assert!(rt; refuses(checked_over_one(alloc, b"A=load K;"), 7, Kind::NoTable));
-}
-
-#[test]
-fn scripts_are_refused_at_the_word(rt: HostRuntime) -> Result<(), Fail> {
-    let alloc = rt.alloc();
-    let tree = parse(alloc, b"T=table[k:nat:v:count]{};print T by v;")?;
-    assert!(rt; refuses(checked(alloc, &tree), 33, Kind::NotAnOrder));
-    Ok(())
-}
-
-// Stores the name of one letter, at byte 50, under another.
-fn store(alloc: Global, letter: u8) -> Result<AstStatement, AllocError> {
-    Ok(AstStatement::Store {
-        at: 44,
-        old: AstName {
-            name: name(alloc, letter)?,
-            at: 50,
-        },
-        new: AstName {
-            name: name(alloc, b'K')?,
-            at: 52,
-        },
-    })
-}
-
-#[test]
-fn stores_name_what_was_assigned(rt: HostRuntime) -> Result<(), Fail> {
-    let alloc = rt.alloc();
-    let mut tree = parse(alloc, b"T=table[:v:count]{};")?;
-    tree.statements.push(store(alloc, b'T')?)?;
-    assert!(rt; is_accepted(checked(alloc, &tree)));
-    tree.statements.push(store(alloc, b'U')?)?;
-    assert!(rt; refuses(checked(alloc, &tree), 50, Kind::NoName));
-    Ok(())
-}
-
-#[test]
-fn operators_have_types(rt: HostRuntime) -> Result<(), Fail> {
-    let alloc = rt.alloc();
-    let tree = parse(
-        alloc,
-        b"A=table[k:nat:v:count]{1:2};B=union A A;C=join A B;D=agg C by;print D;print C;",
-    )?;
-    match checked(alloc, &tree) {
-        Ok(script) => assert_eq!(rt; script.statements.len(), 6),
-        Err(_) => assert!(rt; false),
-    }
-    Ok(())
-}
-
-// Two stored tables, B and C, each with the key column k and the value column v.
+// Two stored tables, B with the key column k and C with i, each with the value column v.
 #[tactic(auto, unfolding(lara_data::specs::Names::distinct, lara_data::specs::Names::has, lara_data::specs::Names::same_name))]
 fn two_stored(alloc: Global) -> Result<List<Schema>, AllocError>
     ensures { IfOk result (λ ss. distinct (map (λ s. s.name) ss) ≡ true) }
@@ -167,26 +40,146 @@ fn two_stored(alloc: Global) -> Result<List<Schema>, AllocError>
     Ok(stored)
 }
 
-fn checked_over_two(alloc: Global, script: &[u8]) -> Result<Script, ReadFault>
+// The script of a text, over the two stored tables.
+fn read(alloc: Global, script: &[u8]) -> Result<Script, ReadFault>
     requires { length script.now ≤ 1048576 }
 {
-    let stored = two_stored(alloc)?;
     let tree = parse(alloc, script)?;
+    let stored = two_stored(alloc)?;
     check(alloc, &tree, &stored, &Vec::new(alloc))
 }
 
+fn refuses(checked: Result<Script, ReadFault>, at: u32, kind: Kind) -> bool {
+    match checked {
+        Ok(_) => false,
+        Err(ReadFault::Memory) => false,
+        Err(ReadFault::Refused(refusal)) => refusal.at == at && refusal.kind == kind,
+    }
+}
+
+fn is_accepted(checked: Result<Script, ReadFault>) -> bool {
+    checked.is_ok()
+}
+
+// Whether a text is refused for this, over the two stored tables.
+fn is_refused(alloc: Global, script: &[u8], at: u32, kind: Kind) -> bool
+    requires { length script.now ≤ 1048576 }
+{
+    refuses(read(alloc, script), at, kind)
+}
+
+// Whether a text has a typed script of so many statements, over the two stored tables.
+fn has_statements(alloc: Global, script: &[u8], statements: usize) -> bool
+    requires { length script.now ≤ 1048576 }
+{
+    match read(alloc, script) {
+        Ok(script) => script.statements.len() == statements,
+        Err(_) => false,
+    }
+}
+
 #[test]
-fn each_stored_table_has_its_type(rt: HostRuntime) {
+fn loads_have_the_type_that_is_stored(rt: HostRuntime) {
     let alloc = rt.alloc();
-    assert!(rt; is_accepted(checked_over_two(alloc, b"A=load B;print A by k;")));
-    assert!(rt; is_accepted(checked_over_two(alloc, b"A=load C;print A by i;")));
+    assert!(rt; has_statements(alloc, b"A=load B;print A by k;", 2));
+    assert!(rt; has_statements(alloc, b"A=load C;print A by i;", 2));
+    assert!(rt; is_refused(alloc, b"A=load C;print A by k;", 17, Kind::NotAnOrder));
+    assert!(rt; is_refused(alloc, b"A=load K;", 7, Kind::NoTable));
+}
+
+#[test]
+fn scripts_are_refused_at_the_word(rt: HostRuntime) {
+    let alloc = rt.alloc();
     assert!(rt;
-        refuses(
-            checked_over_two(alloc, b"A=load C;print A by k;"),
-            17,
+        is_refused(
+            alloc,
+            b"T=table[k:nat:v:count]{};print T by v;",
+            33,
             Kind::NotAnOrder
         )
     );
+}
+
+#[test]
+fn operators_have_types(rt: HostRuntime) {
+    let alloc = rt.alloc();
+    assert!(rt;
+        has_statements(
+            alloc,
+            b"A=table[k:nat:v:count]{1:2};B=union A A;C=join A B;D=agg C by;print D;print C;",
+            6
+        )
+    );
+}
+
+// How many entries the literal has that a statement assigns.
+fn entries_of(statement: Option<&Statement>) -> Option<usize> {
+    match statement {
+        Some(Statement::Assign(_, node)) => match &node.op {
+            Op::Literal(entries) => Some(entries.len()),
+            _ => None,
+        },
+        _ => None,
+    }
+}
+
+// Whether the first statement of a typed script assigns a literal of so many entries.
+fn starts_with(script: &Script, entries: usize) -> bool {
+    entries_of(script.statements.as_slice().first()) == Some(entries)
+}
+
+fn copy_of<T: Copied>(alloc: Global, value: &T) -> Result<T, AllocError> {
+    value.copy(alloc)
+}
+
+// Whether a copy of the script starts so.
+fn copy_starts_with(alloc: Global, script: &Script, entries: usize) -> bool {
+    match copy_of(alloc, script) {
+        Ok(copy) => starts_with(&copy, entries),
+        Err(_) => false,
+    }
+}
+
+// Whether the typed script of a text starts so, and its copy.
+fn both_start_with(alloc: Global, script: &[u8], entries: usize) -> bool
+    requires { length script.now ≤ 1048576 }
+{
+    match read(alloc, script) {
+        Ok(script) => { starts_with(&script, entries) && copy_starts_with(alloc, &script, entries) }
+        Err(_) => false,
+    }
+}
+
+#[test]
+fn literals_and_prints_have_types(rt: HostRuntime) {
+    let alloc = rt.alloc();
+    let script = b"T=table[k:nat:v:count]{1:2;3:4;};print T by k;";
+    assert!(rt; has_statements(alloc, script, 2));
+    assert!(rt; both_start_with(alloc, script, 2));
+}
+
+// Stores the name of one letter, at byte 50, under another.
+fn store(alloc: Global, letter: u8) -> Result<AstStatement, AllocError> {
+    let (old, new) = both(name(alloc, letter), name(alloc, b'K'))?;
+    Ok(AstStatement::Store {
+        at: 44,
+        old: AstName { name: old, at: 50 },
+        new: AstName { name: new, at: 52 },
+    })
+}
+
+// A script that assigns T and then stores the table of a name.
+fn stored_after(alloc: Global, letter: u8) -> Result<Script, ReadFault> {
+    let mut tree = parse(alloc, b"T=table[:v:count]{};")?;
+    tree.statements.push(store(alloc, letter)?)?;
+    checked(alloc, &tree)
+}
+
+#[test]
+fn stores_name_what_was_assigned(rt: HostRuntime) {
+    let alloc = rt.alloc();
+    assert!(rt; is_accepted(stored_after(alloc, b'T')));
+    assert!(rt; refuses(stored_after(alloc, b'U'), 50, Kind::NoName));
 }
 
 // A name at the byte 9.

@@ -1,17 +1,21 @@
 //! The typed tree of a tree with places.
-ghost use Rattle.std.specs.Prelude.{◌≡◌, IfErr};
+ghost use Rattle.std.specs.Prelude.{◌≡◌, None, Ok, IfOk, IfErr};
 ghost use Rattle.std.specs.Option.{option_copied};
+ghost use Rattle.lara_data.specs.declared.node.Node.{Node as NodeSpec};
+ghost use Rattle.lara_data.specs.Algebra.{agg_columns};
 ghost use Rattle.lara_data.specs.TypedTrees.{type_named};
-ghost use Rattle.lara_data.specs.TypeRules.{join_type, union_type, agg_type};
-ghost use Rattle.lara_data.specs.Judgements.{Judges, NotMemory};
-ghost use Rattle.lara_types.specs.CheckedTrees.{plain, known_type, loaded, assigned, placed, placed_agg, literal_node, checked_op};
+ghost use Rattle.lara_data.specs.Judgements.{Judges, NotMemory, refused};
+ghost use Rattle.lara_types.specs.CheckedTrees.{typed, columns_in, loaded, assigned, literal, joined, united, summed, checked_op};
+ghost use Rattle.lara_types.specs.NodeRules.{known_rules, agg_rules};
+ghost use Rattle.lara_types.specs.Rules.{first_broken, by_rules};
+ghost use Rattle.lara_types.specs.Written.{plain};
 
-use crate::agg_places::agg_place;
+use crate::agg_places::agg_refusal;
 use crate::literal_entries::entries_of;
 use crate::literal_types::literal_type;
 use crate::orders::plain_names;
 use crate::refuse::refused;
-use crate::rules::{type_agg, type_join, type_union};
+use crate::rules::{agg_type, type_join, type_union};
 use lara_base::{Boxed, Copied, List, Name};
 use lara_data::{Kind, Node, Op, ReadFault, Schema, TableType};
 use lara_syntax::{AstEntry, AstName, AstNode, AstOp, AstType};
@@ -32,12 +36,13 @@ fn type_named<'a>(known: &'a List<Schema>, name: &Name) -> Option<&'a TableType>
 }
 
 /// The newest type of a name, or a refusal of this kind where it has none.
+#[tactic(auto, unfolding(crate::specs::Rules::first_broken))]
 pub fn known_type<'a>(
     known: &'a List<Schema>,
     name: &AstName,
     kind: Kind,
 ) -> Result<&'a TableType, ReadFault>
-    ensures gives { Judges (λ t. t.now) (known_type kind name.now (type_named name.now.name known.now)) result }
+    ensures gives { Judges (λ t. t.now) (by_rules (known_rules kind name.now (type_named name.now.name known.now)) (columns_in (type_named name.now.name known.now))) result }
     ensures sure { IfErr result NotMemory }
 {
     match type_named(known, &name.name) {
@@ -65,14 +70,13 @@ fn named_of(alloc: Global, known: &List<Schema>, name: &AstName) -> Result<Node,
 }
 
 // A literal with its type and its entries.
-#[tactic(auto, unfolding(crate::specs::CheckedTrees::literal_node, crate::specs::LiteralEntries::entries_of))]
 fn literal_of(
     alloc: Global,
     at: u32,
     ty: &AstType,
     entries: &List<AstEntry>,
 ) -> Result<Node, ReadFault>
-    ensures { Judges (λ n. n) (literal_node at ty.now entries.now) result }
+    ensures { Judges (λ n. n) (literal at ty.now entries.now) result }
 {
     let ty = literal_type(alloc, at, ty)?;
     let entries = entries_of(alloc, &ty, entries)?;
@@ -82,9 +86,10 @@ fn literal_of(
     })
 }
 
-// The operator with its type, or a rule's refusal at its place.
+// The operator with its type, or the refusal of the rule that is broken.
 fn placed(at: u32, op: Op, ty: Result<TableType, Kind>) -> Result<Node, ReadFault>
-    ensures gives { Judges (λ n. n) (placed at op ty) result }
+    ensures typed { IfOk ty (λ t. Judges (λ n. n) (Ok (typed t op)) result) }
+    ensures broken { IfErr ty (λ kind. Judges (λ (n : NodeSpec). n) (refused at kind) result) }
     ensures sure { IfErr result NotMemory }
 {
     match ty {
@@ -95,7 +100,7 @@ fn placed(at: u32, op: Op, ty: Result<TableType, Kind>) -> Result<Node, ReadFaul
 
 // A join whose first word is at `at`.
 fn join_of(alloc: Global, at: u32, a: Node, b: Node) -> Result<Node, ReadFault>
-    ensures { Judges (λ n. n) (placed at (Op.Join a b) (join_type a.ty b.ty)) result }
+    ensures { Judges (λ n. n) (joined at a b) result }
 {
     let ty = type_join(alloc, &a.ty, &b.ty)?;
     let op = Op::Join(Boxed::new(alloc, a)?, Boxed::new(alloc, b)?);
@@ -104,41 +109,32 @@ fn join_of(alloc: Global, at: u32, a: Node, b: Node) -> Result<Node, ReadFault>
 
 // A union whose first word is at `at`.
 fn union_of(alloc: Global, at: u32, a: Node, b: Node) -> Result<Node, ReadFault>
-    ensures { Judges (λ n. n) (placed at (Op.Union a b) (union_type a.ty b.ty)) result }
+    ensures { Judges (λ n. n) (united at a b) result }
 {
     let ty = type_union(alloc, &a.ty, &b.ty)?;
     let op = Op::Union(Boxed::new(alloc, a)?, Boxed::new(alloc, b)?);
     placed(at, op, ty)
 }
 
-// An agg with its type, or the refusal at the name that breaks a rule.
-fn placed_agg(
-    alloc: Global,
-    at: u32,
-    a: Node,
-    keys: &List<AstName>,
-    ty: Result<TableType, Kind>,
-) -> Result<Node, ReadFault>
-    ensures gives { Judges (λ n. n) (placed_agg a at keys.now ty) result }
-    ensures sure { IfErr ty (λ kind. IfErr result NotMemory) }
+// An agg whose rules are met.
+fn sum_of(alloc: Global, a: Node, keys: &List<AstName>) -> Result<Node, ReadFault>
+    requires { first_broken (agg_rules a.ty keys.now) ≡ None }
+    ensures { Judges (λ n. n) (Ok (typed (agg_columns a.ty (plain keys.now)) (Op.Agg a (plain keys.now)))) result }
 {
-    match ty {
-        Ok(ty) => {
-            let keys = plain_names(alloc, keys)?;
-            let op = Op::Agg(Boxed::new(alloc, a)?, keys);
-            Ok(Node { ty, op })
-        }
-        Err(kind) => Err(refused(agg_place(&a.ty, at, keys, kind), kind)),
-    }
+    let keys = plain_names(alloc, keys)?;
+    let ty = agg_type(alloc, &a.ty, &keys)?;
+    let op = Op::Agg(Boxed::new(alloc, a)?, keys);
+    Ok(Node { ty, op })
 }
 
-// An agg whose first word is at `at`.
-fn agg_of(alloc: Global, at: u32, a: Node, keys: &List<AstName>) -> Result<Node, ReadFault>
-    ensures { Judges (λ n. n) (placed_agg a at keys.now (agg_type a.ty (plain keys.now))) result }
+// An agg.
+fn agg_of(alloc: Global, a: Node, keys: &List<AstName>) -> Result<Node, ReadFault>
+    ensures { Judges (λ n. n) (summed a keys.now) result }
 {
-    let names = plain_names(alloc, keys)?;
-    let ty = type_agg(alloc, &a.ty, &names)?;
-    placed_agg(alloc, at, a, keys, ty)
+    match agg_refusal(&a.ty, keys.as_slice()) {
+        Some(refusal) => Err(ReadFault::Refused(refusal)),
+        None => sum_of(alloc, a, keys),
+    }
 }
 
 /// The typed tree of a table: operands come before operators, left before right.
@@ -167,7 +163,7 @@ pub fn node_of(
         }
         AstOp::Agg(a, keys) => {
             let table = node_of(alloc, stored, known, a.get())?;
-            agg_of(alloc, node.at, table, keys)
+            agg_of(alloc, table, keys)
         }
         // These have no words in the grammar yet.
         AstOp::Map(_, _) => Err(refused(node.at, Kind::Unexpected)),

@@ -3,7 +3,7 @@ use Rattle.std.proofs.lemmas.List.{append-nil}
 use Rattle.std.proofs.lemmas.Result.{err_from_is_err_and}
 use Rattle.lara_types.specs.LiteralTypes.{key_col_name, one_more_key, one_more_val}
 use Rattle.lara_types.proofs.SeenNames.{holds_empty}
-use Rattle.lara_types.proofs.WalkFacts.{walk-none}
+use Rattle.lara_types.specs.WalkLaws.{walk-none}
 use Rattle.lara_types.proofs.ColumnNames.{fault_through, keys_more, keys_stop, vals_more, vals_stop, names_end, holds_key, holds_val, keys_all, vals_all}
 use Rattle.lara_types.proofs.literal_types.check_names.Goals as goal
 

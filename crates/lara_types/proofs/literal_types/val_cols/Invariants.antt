@@ -1,5 +1,5 @@
 use Rattle.std.proofs.Common.{◌≡◌, map, take}
-use Rattle.lara_types.specs.LiteralTypes.{val_col}
+use Rattle.lara_types.specs.Written.{val_col}
 use Rattle.lara_types.proofs.literal_types.val_cols.Given as goal
 
 -- the columns so far

@@ -2,8 +2,9 @@ use Rattle.std.proofs.Common.{sym, ◌∙◌}
 use Rattle.std.proofs.lemmas.Result.{err_from_is_err_and}
 use Rattle.lara_types.proofs.ColumnNames.{fault_through}
 use Rattle.lara_types.proofs.FitFacts.{has_fits}
-use Rattle.lara_types.proofs.Found.{checked_has}
-use Rattle.lara_types.proofs.Only.{has_checked}
+use Rattle.lara_types.specs.Found.{checked_has}
+use Rattle.lara_types.specs.Only.{has_checked}
+use Rattle.lara_types.specs.RefusedLaws.{script_judged, right_fault}
 use Rattle.lara_types.proofs.SizeFacts.{as_many_statements, as_many_nodes}
 use Rattle.lara_types.proofs.TypedFacts.{has_typed}
 use Rattle.lara_types.proofs.scripts.check.Goals as goal
@@ -30,3 +31,16 @@ returns-clause-nodes g c = as_many_nodes c.args.stored.now c.args.tree.now _ (ch
 
 pub returns-clause-fits : goal.returns-clause-fits
 returns-clause-fits g c = λ db of_stored. has_fits c.args.stored.now c.args.tree.now _ _ db of_stored (checked_has _ _ _ c.in_ok-statements.ensures)
+
+pub returns-in_err-statements-clause-refused : goal.returns-in_err-statements-clause-refused
+returns-in_err-statements-clause-refused g c =
+    let p = err_from_is_err_and c.from_residual.result c.from_residual.ensures.1 in
+    rw (p.1, p.2) (right_fault c.args.stored.now c.args.tree.now _ c.in_err-statements.ensures)
+
+pub returns-in_err-statements-clause-only_refusal : goal.returns-in_err-statements-clause-only_refusal
+returns-in_err-statements-clause-only_refusal g c =
+    let p = err_from_is_err_and c.from_residual.result c.from_residual.ensures.1 in
+    λ r why. rw (p.1, p.2) (fault_through _ _ _ (λ q e. sym (script_judged c.args.stored.now c.args.tree.now r why) ∙ e) c.in_err-statements.ensures)
+
+pub returns-clause-only_refusal : goal.returns-clause-only_refusal
+returns-clause-only_refusal g c = λ r why. sym (script_judged c.args.stored.now c.args.tree.now r why) ∙ c.in_ok-statements.ensures
