@@ -34,4 +34,6 @@ mod tests_copies;
 #[cfg(test)]
 mod tests_grammar;
 #[cfg(test)]
+mod tests_shown;
+#[cfg(test)]
 mod tests_tokens;

@@ -1,9 +1,13 @@
 //! The trees of small scripts, and the refusals of broken ones, with their places, worked out by hand.
 ghost use Rattle.std.specs.Prelude.{◌≤◌, length};
 
-use crate::ast::{AstEntry, AstLit, AstName, AstNode, AstOp, AstStatement, AstType, AstValue};
+use crate::ast::{
+    Ast, AstBy, AstEntry, AstKeyCol, AstLit, AstName, AstNode, AstOp, AstStatement, AstType,
+    AstValCol, AstValue,
+};
 use crate::parsing::parse;
-use lara_base::{Copied, List};
+use crate::tests_shown::{behind, behind_number, behind_place, is_refusal};
+use lara_base::Copied;
 use lara_data::ReadFault;
 use std::alloc::{AllocError, Global};
 
@@ -69,198 +73,169 @@ const CASES: [(&[u8], &str); 40] = [
     ),
 ];
 
-fn push_name(alloc: Global, out: &mut String, name: &AstName) -> Result<(), AllocError> {
-    for b in name.name.bytes() {
-        out.push(char::from(*b))?;
-    }
-    out.push_str(&format!(in alloc; "@{} ", name.at)?)
+// What is left behind `NAME@PLACE `.
+fn behind_name<'a>(want: &'a [u8], name: &AstName) -> Option<&'a [u8]> {
+    let rest = behind(want, name.name.bytes().as_slice())?;
+    behind_place(behind(rest, b"@")?, name.at)
 }
 
-fn push_lits(alloc: Global, out: &mut String, lits: &List<AstLit>) -> Result<(), AllocError> {
-    for lit in lits {
-        match &lit.value {
-            AstValue::Number(n) => out.push_str(&format!(in alloc; "{n}@{} ", lit.at)?)?,
-            _ => out.push_str("? ")?,
-        }
-    }
-    Ok(())
-}
-
-fn push_entry(alloc: Global, out: &mut String, entry: &AstEntry) -> Result<(), AllocError> {
-    out.push_str(&format!(in alloc; "{}: ", entry.at)?)?;
-    push_lits(alloc, out, &entry.key)?;
-    out.push_str(": ")?;
-    push_lits(alloc, out, &entry.row)
-}
-
-fn push_type(alloc: Global, out: &mut String, ty: &AstType) -> Result<(), AllocError> {
-    for col in &ty.keys {
-        push_name(alloc, out, &col.name)?;
-    }
-    out.push_str(": ")?;
-    for col in &ty.vals {
-        push_name(alloc, out, &col.name)?;
-    }
-    Ok(())
-}
-
-fn push_names(alloc: Global, out: &mut String, names: &List<AstName>) -> Result<(), AllocError> {
+fn behind_names<'a>(want: &'a [u8], names: &[AstName]) -> Option<&'a [u8]> {
+    let mut rest = want;
     for name in names {
-        push_name(alloc, out, name)?;
+        rest = behind_name(rest, name)?;
     }
-    Ok(())
+    Some(rest)
 }
 
-fn push_entries(
-    alloc: Global,
-    out: &mut String,
-    entries: &List<AstEntry>,
-) -> Result<(), AllocError> {
-    out.push_str("{ ")?;
+// What is left behind `NUMBER@PLACE `.
+fn behind_lit<'a>(want: &'a [u8], lit: &AstLit) -> Option<&'a [u8]> {
+    match &lit.value {
+        AstValue::Number(n) => behind_place(behind(behind_number(want, *n)?, b"@")?, lit.at),
+        _ => None,
+    }
+}
+
+fn behind_lits<'a>(want: &'a [u8], lits: &[AstLit]) -> Option<&'a [u8]> {
+    let mut rest = want;
+    for lit in lits {
+        rest = behind_lit(rest, lit)?;
+    }
+    Some(rest)
+}
+
+fn behind_entry<'a>(want: &'a [u8], entry: &AstEntry) -> Option<&'a [u8]> {
+    let rest = behind(behind_number(want, u64::from(entry.at))?, b": ")?;
+    let rest = behind_lits(rest, entry.key.as_slice())?;
+    behind_lits(behind(rest, b": ")?, entry.row.as_slice())
+}
+
+fn behind_entries<'a>(want: &'a [u8], entries: &[AstEntry]) -> Option<&'a [u8]> {
+    let mut rest = behind(want, b"{ ")?;
     for entry in entries {
-        push_entry(alloc, out, entry)?;
+        rest = behind_entry(rest, entry)?;
     }
-    out.push_str("} ")
+    behind(rest, b"} ")
 }
 
-// The place, the word and what follows, the operands in brackets.
-fn push_node(alloc: Global, out: &mut String, node: &AstNode) -> Result<(), AllocError> {
-    out.push_str(&format!(in alloc; "{} ", node.at)?)?;
+fn behind_keys<'a>(want: &'a [u8], keys: &[AstKeyCol]) -> Option<&'a [u8]> {
+    let mut rest = want;
+    for col in keys {
+        rest = behind_name(rest, &col.name)?;
+    }
+    Some(rest)
+}
+
+fn behind_vals<'a>(want: &'a [u8], vals: &[AstValCol]) -> Option<&'a [u8]> {
+    let mut rest = want;
+    for col in vals {
+        rest = behind_name(rest, &col.name)?;
+    }
+    Some(rest)
+}
+
+fn behind_type<'a>(want: &'a [u8], ty: &AstType) -> Option<&'a [u8]> {
+    let rest = behind_keys(want, ty.keys.as_slice())?;
+    behind_vals(behind(rest, b": ")?, ty.vals.as_slice())
+}
+
+// What is left behind a table: its place, its word and what follows, each operand likewise.
+fn behind_node<'a>(want: &'a [u8], node: &AstNode) -> Option<&'a [u8]> {
+    let rest = behind_place(want, node.at)?;
     match &node.op {
-        AstOp::Load(name) => {
-            out.push_str("load ")?;
-            push_name(alloc, out, name)
-        }
-        AstOp::Named(name) => push_name(alloc, out, name),
+        AstOp::Load(name) => behind_name(behind(rest, b"load ")?, name),
+        AstOp::Named(name) => behind_name(rest, name),
         AstOp::Literal(ty, entries) => {
-            out.push_str("table ")?;
-            push_type(alloc, out, ty)?;
-            push_entries(alloc, out, entries)
+            let rest = behind_type(behind(rest, b"table ")?, ty)?;
+            behind_entries(rest, entries.as_slice())
         }
-        AstOp::Join(a, b) => {
-            out.push_str("join ")?;
-            push_node(alloc, out, a.get())?;
-            push_node(alloc, out, b.get())
-        }
+        AstOp::Join(a, b) => behind_node(behind_node(behind(rest, b"join ")?, a.get())?, b.get()),
         AstOp::Union(a, b) => {
-            out.push_str("union ")?;
-            push_node(alloc, out, a.get())?;
-            push_node(alloc, out, b.get())
+            behind_node(behind_node(behind(rest, b"union ")?, a.get())?, b.get())
         }
         AstOp::Agg(a, names) => {
-            out.push_str("agg ")?;
-            push_node(alloc, out, a.get())?;
-            out.push_str("by ")?;
-            push_names(alloc, out, names)
+            let rest = behind_node(behind(rest, b"agg ")?, a.get())?;
+            behind_names(behind(rest, b"by ")?, names.as_slice())
         }
-        _ => out.push_str("? "),
+        _ => None,
     }
 }
 
-fn push_statement(
-    alloc: Global,
-    out: &mut String,
-    statement: &AstStatement,
-) -> Result<(), AllocError> {
+fn behind_by<'a>(want: &'a [u8], by: &AstBy) -> Option<&'a [u8]> {
+    let rest = behind(behind_place(want, by.at)?, b"by ")?;
+    behind_names(rest, by.names.as_slice())
+}
+
+fn behind_statement<'a>(want: &'a [u8], statement: &AstStatement) -> Option<&'a [u8]> {
     match statement {
         AstStatement::Assign { at, name, node } => {
-            out.push_str(&format!(in alloc; "{at} ")?)?;
-            push_name(alloc, out, name)?;
-            out.push_str("= ")?;
-            push_node(alloc, out, node)
+            let rest = behind_name(behind_place(want, *at)?, name)?;
+            behind_node(behind(rest, b"= ")?, node)
         }
         AstStatement::Print { at, name, by } => {
-            out.push_str(&format!(in alloc; "{at} print ")?)?;
-            push_name(alloc, out, name)?;
-            if let Some(by) = by {
-                out.push_str(&format!(in alloc; "{} by ", by.at)?)?;
-                for name in &by.names {
-                    push_name(alloc, out, name)?;
-                }
+            let rest = behind_name(behind(behind_place(want, *at)?, b"print ")?, name)?;
+            match by {
+                Some(by) => behind_by(rest, by),
+                None => Some(rest),
             }
-            Ok(())
         }
-        AstStatement::Store { .. } => out.push_str("? "),
+        AstStatement::Store { .. } => None,
     }
+}
+
+fn behind_statements<'a>(want: &'a [u8], statements: &[AstStatement]) -> Option<&'a [u8]> {
+    let mut rest = want;
+    for statement in statements {
+        rest = behind_statement(rest, statement)?;
+    }
+    Some(rest)
+}
+
+fn are_statements(want: &[u8], statements: &[AstStatement]) -> bool {
+    behind_statements(want, statements).is_some_and(|rest| rest.is_empty())
 }
 
 fn copy_of<T: Copied>(alloc: Global, value: &T) -> Result<T, AllocError> {
     value.copy(alloc)
 }
 
-fn shown(alloc: Global, script: &[u8]) -> Result<String, AllocError>
+// Whether the text shows a copy of the tree, so that copies are seen to be made.
+fn is_copied_as(alloc: Global, ast: &Ast, want: &[u8]) -> Result<bool, AllocError> {
+    let copy = copy_of(alloc, ast)?;
+    Ok(are_statements(want, copy.statements.as_slice()))
+}
+
+// Whether the text shows the tree of the script, or its refusal.
+fn is_parsed_as(alloc: Global, script: &[u8], want: &[u8]) -> Result<bool, AllocError>
     requires { length script.now ≤ 1048576 }
 {
-    let mut out = String::new(alloc);
     match parse(alloc, script) {
-        Ok(ast) => {
-            // A copy, so that copies are seen to be made.
-            let ast = copy_of(alloc, &ast)?;
-            for statement in &ast.statements {
-                push_statement(alloc, &mut out, statement)?;
-            }
-        }
-        Err(ReadFault::Refused(refusal)) => {
-            out.push_str(&format!(in alloc; "{} {:?}", refusal.at, refusal.kind)?)?;
-        }
-        Err(ReadFault::Memory) => out.push_str("no memory")?,
+        Ok(ast) => is_copied_as(alloc, &ast, want),
+        Err(ReadFault::Refused(refusal)) => Ok(is_refusal(want, refusal)),
+        Err(ReadFault::Memory) => Err(AllocError),
     }
-    Ok(out)
 }
 
 #[test]
 fn scripts_have_their_tree_or_their_refusal(rt: HostRuntime) -> Result<(), AllocError> {
     for (script, want) in CASES {
         if script.len() <= 1048576 {
-            let got = shown(rt.alloc(), script)?;
-            assert_eq!(rt; got.as_str(), want, "at {want}");
+            let is = is_parsed_as(rt.alloc(), script, want.as_bytes())?;
+            assert!(rt; is, "at {want}");
         }
     }
     Ok(())
 }
 
-// 256 statements of 8 bytes, and what stands behind them.
-fn many_statements(alloc: Global, behind: &[u8]) -> Result<Vec<u8>, AllocError> {
-    let mut script = Vec::new(alloc);
-    for _ in 0..256 {
-        script.extend_from_slice(b"print T;")?;
-    }
-    script.extend_from_slice(behind)?;
-    Ok(script)
-}
-
-#[test]
-fn the_257th_statement_is_refused(rt: HostRuntime) -> Result<(), AllocError> {
-    let cases: [(&[u8], &str); 4] = [
-        (b"print T;", "2048 TooMany"),
-        (b" T", "2049 TooMany"),
-        (b";", "2048 Unexpected"),
-        (b"!", "2048 BadByte"),
-    ];
-    for (behind, want) in cases {
-        let script = many_statements(rt.alloc(), behind)?;
-        if script.len() <= 1048576 {
-            let got = shown(rt.alloc(), &script)?;
-            assert_eq!(rt; got.as_str(), want, "at {want}");
-        }
-    }
-    let script = many_statements(rt.alloc(), b"")?;
-    if script.len() <= 1048576 {
-        let got = shown(rt.alloc(), &script)?;
-        assert!(rt; got.ends_with("2040 print T@2046 "));
-    }
-    Ok(())
-}
-
-// `T=`, as many times a text, and what stands behind them.
+// A text, as many times another, and what stands behind them.
 fn repeated(
     alloc: Global,
+    before: &[u8],
     times: usize,
     text: &[u8],
     behind: &[u8],
 ) -> Result<Vec<u8>, AllocError> {
     let mut script = Vec::new(alloc);
-    script.extend_from_slice(b"T=")?;
+    script.extend_from_slice(before)?;
     for _ in 0..times {
         script.extend_from_slice(text)?;
     }
@@ -268,22 +243,99 @@ fn repeated(
     Ok(script)
 }
 
+// Whether the text shows the tree or the refusal of as many times another between two.
+fn are_parsed_as(
+    alloc: Global,
+    before: &[u8],
+    times: usize,
+    text: &[u8],
+    behind: &[u8],
+    want: &[u8],
+) -> Result<bool, AllocError> {
+    let script = repeated(alloc, before, times, text, behind)?;
+    let bytes = script.as_slice();
+    if bytes.len() > 1048576 {
+        return Ok(false);
+    }
+    is_parsed_as(alloc, bytes, want)
+}
+
 #[test]
-fn the_65th_level_is_refused(rt: HostRuntime) -> Result<(), AllocError> {
-    let mut script = repeated(rt.alloc(), 64, b"(", b"A")?;
-    for _ in 0..64 {
+fn the_257th_statement_is_refused(rt: HostRuntime) -> Result<(), AllocError> {
+    // Behind 256 statements of 8 bytes.
+    let cases: [(&[u8], &str); 4] = [
+        (b"print T;", "2048 TooMany"),
+        (b" T", "2049 TooMany"),
+        (b";", "2048 Unexpected"),
+        (b"!", "2048 BadByte"),
+    ];
+    for (behind, want) in cases {
+        let is = are_parsed_as(rt.alloc(), b"", 256, b"print T;", behind, want.as_bytes())?;
+        assert!(rt; is, "at {want}");
+    }
+    Ok(())
+}
+
+fn last_is(want: &[u8], statements: &[AstStatement]) -> bool {
+    match statements.last() {
+        Some(last) => behind_statement(want, last).is_some_and(|rest| rest.is_empty()),
+        None => false,
+    }
+}
+
+// How many statements a script has, where the text shows the last of them.
+fn ends_as(alloc: Global, script: &[u8], want: &[u8]) -> Result<usize, ReadFault>
+    requires { length script.now ≤ 1048576 }
+{
+    let ast = parse(alloc, script)?;
+    if last_is(want, ast.statements.as_slice()) {
+        Ok(ast.statements.len())
+    } else {
+        Ok(0)
+    }
+}
+
+#[test]
+fn the_256th_statement_is_read(rt: HostRuntime) -> Result<(), ReadFault> {
+    let script = repeated(rt.alloc(), b"", 256, b"print T;", b"")?;
+    let bytes = script.as_slice();
+    if bytes.len() <= 1048576 {
+        let count = ends_as(rt.alloc(), bytes, b"2040 print T@2046 ")?;
+        assert_eq!(rt; count, 256);
+    }
+    Ok(())
+}
+
+// `T=`, as many times what opens a level, what stands inside, as many times `)`, and `;`.
+fn nested(alloc: Global, times: usize, open: &[u8], inside: &[u8]) -> Result<Vec<u8>, AllocError> {
+    let mut script = Vec::new(alloc);
+    script.extend_from_slice(b"T=")?;
+    for _ in 0..times {
+        script.extend_from_slice(open)?;
+    }
+    script.extend_from_slice(inside)?;
+    for _ in 0..times {
         script.push(b')')?;
     }
     script.push(b';')?;
-    if script.len() <= 1048576 {
-        let got = shown(rt.alloc(), &script)?;
-        assert_eq!(rt; got.as_str(), "0 T@0 = 66 A@66 ");
+    Ok(script)
+}
+
+#[test]
+fn the_64th_level_is_read(rt: HostRuntime) -> Result<(), AllocError> {
+    let script = nested(rt.alloc(), 64, b"(", b"A")?;
+    let bytes = script.as_slice();
+    if bytes.len() <= 1048576 {
+        let is = is_parsed_as(rt.alloc(), bytes, b"0 T@0 = 66 A@66 ")?;
+        assert!(rt; is);
     }
-    let script = repeated(rt.alloc(), 65, b"(", b"")?;
-    if script.len() <= 1048576 {
-        let got = shown(rt.alloc(), &script)?;
-        assert_eq!(rt; got.as_str(), "66 TooMany");
-    }
+    Ok(())
+}
+
+#[test]
+fn the_65th_level_is_refused(rt: HostRuntime) -> Result<(), AllocError> {
+    let is = are_parsed_as(rt.alloc(), b"T=", 65, b"(", b"", b"66 TooMany")?;
+    assert!(rt; is);
     Ok(())
 }
 
@@ -296,20 +348,42 @@ fn the_65th_operator_is_refused(rt: HostRuntime) -> Result<(), AllocError> {
         (b"union A join", "514 Unexpected"),
     ];
     for (behind, want) in cases {
-        let script = repeated(rt.alloc(), 63, b"join A (", behind)?;
-        if script.len() <= 1048576 {
-            let got = shown(rt.alloc(), &script)?;
-            assert_eq!(rt; got.as_str(), want, "at {want}");
-        }
+        let is = are_parsed_as(rt.alloc(), b"T=", 63, b"join A (", behind, want.as_bytes())?;
+        assert!(rt; is, "at {want}");
     }
-    let mut script = repeated(rt.alloc(), 63, b"join A (", b"union A A")?;
-    for _ in 0..63 {
-        script.push(b')')?;
+    Ok(())
+}
+
+// Whether the text shows what is innermost on the right side of joins.
+fn innermost_is(want: &[u8], node: &AstNode) -> bool {
+    match &node.op {
+        AstOp::Join(_, b) => innermost_is(want, b.get()),
+        _ => behind_node(want, node).is_some_and(|rest| rest.is_empty()),
     }
-    script.push(b';')?;
-    if script.len() <= 1048576 {
-        let got = shown(rt.alloc(), &script)?;
-        assert!(rt; got.ends_with("506 union 512 A@512 514 A@514 "));
+}
+
+fn assigns_innermost(want: &[u8], statements: &[AstStatement]) -> bool {
+    match statements {
+        [AstStatement::Assign { node, .. }] => innermost_is(want, node),
+        _ => false,
+    }
+}
+
+// Whether a script assigns joins, on whose right side the text shows what is innermost.
+fn joins_innermost(alloc: Global, script: &[u8], want: &[u8]) -> Result<bool, ReadFault>
+    requires { length script.now ≤ 1048576 }
+{
+    let ast = parse(alloc, script)?;
+    Ok(assigns_innermost(want, ast.statements.as_slice()))
+}
+
+#[test]
+fn the_64th_operator_is_read(rt: HostRuntime) -> Result<(), ReadFault> {
+    let script = nested(rt.alloc(), 63, b"join A (", b"union A A")?;
+    let bytes = script.as_slice();
+    if bytes.len() <= 1048576 {
+        let is = joins_innermost(rt.alloc(), bytes, b"506 union 512 A@512 514 A@514 ")?;
+        assert!(rt; is);
     }
     Ok(())
 }
