@@ -2,6 +2,7 @@
 //! traits of the outside world with their forms in memory and their real forms. It knows no value type.
 #![tactic(auto)]
 
+mod calls;
 mod content;
 mod copied;
 mod file_name;
@@ -16,6 +17,7 @@ mod standard;
 mod streams;
 mod write_sink;
 
+pub use calls::Calls;
 pub use content::{Content, Text};
 pub use copied::Copied;
 pub use file_name::FileName;

@@ -1,5 +1,6 @@
 -- What holds no list and no other expression, so that to copy it takes no memory.
-use Rattle.std.specs.Prelude.{Bool, true, false}
+use Rattle.std.specs.Prelude.{Bool, true, false, not}
+use Rattle.lara_key.specs.Keys.{key_holds_text}
 use Rattle.lara_data.specs.declared.arg.Arg.{Arg}
 use Rattle.lara_data.specs.declared.arg.Arg.TheVariants as arg
 use Rattle.lara_data.specs.declared.expr.Expr.{Expr}
@@ -13,7 +14,7 @@ is_atom expr.Inf = true
 is_atom expr.None = true
 is_atom e = false
 
--- a value, not a column
-abbrev pub is_literal : Arg → Bool
-is_literal (arg.Literal v) = true
-is_literal (arg.Column n) = false
+-- a value without text, not a column
+abbrev pub is_plain_arg : Arg → Bool
+is_plain_arg (arg.Literal v) = not (key_holds_text v)
+is_plain_arg (arg.Column n) = false

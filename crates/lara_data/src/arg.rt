@@ -1,6 +1,6 @@
 //! What operators are given beside their operands.
 ghost use Rattle.std.specs.Prelude.{◌≡◌, IsTrue, IfOk, IsOk};
-ghost use Rattle.lara_data.specs.Atoms.{is_literal};
+ghost use Rattle.lara_data.specs.Atoms.{is_plain_arg};
 
 use crate::expr::Expr;
 use crate::table_type::{KeyCol, ValCol};
@@ -47,7 +47,7 @@ pub struct NamePair {
 impl Copied for Arg {
     fn copy(&self, alloc: Global) -> Result<Arg, AllocError>
         ensures same { IfOk result (λ r. r ≡ self.now) }
-        ensures exact { IsTrue (is_literal self.now) → IsOk result }
+        ensures exact { IsTrue (is_plain_arg self.now) → IsOk result }
     {
         match self {
             Arg::Column(name) => Ok(Arg::Column(name.copy(alloc)?)),

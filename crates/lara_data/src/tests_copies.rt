@@ -22,8 +22,9 @@ fn is_number(e: &Expr, n: u64) -> bool {
 }
 
 fn copies_column(alloc: Global) -> Result<bool, AllocError> {
-    match copy_of(alloc, &Expr::Column(name(alloc, b'c')?))? {
-        Expr::Column(column) => Ok(is_letter(&column, b'c')),
+    let copy = copy_of(alloc, &Expr::Column(name(alloc, b'c')?))?;
+    match &copy {
+        Expr::Column(column) => Ok(is_letter(column, b'c')),
         _ => Ok(false),
     }
 }
@@ -34,28 +35,32 @@ fn copies_number(alloc: Global) -> Result<bool, AllocError> {
 
 fn copies_text(alloc: Global) -> Result<bool, AllocError> {
     let text = Content::new(List::from_slice(alloc, b"t")?).ok_or(AllocError)?;
-    match copy_of(alloc, &Expr::Text(text))? {
+    let copy = copy_of(alloc, &Expr::Text(text))?;
+    match &copy {
         Expr::Text(content) => Ok(content.bytes().get(0) == Some(&b't')),
         _ => Ok(false),
     }
 }
 
 fn copies_flag(alloc: Global) -> Result<bool, AllocError> {
-    match copy_of(alloc, &Expr::Flag(true))? {
-        Expr::Flag(flag) => Ok(flag),
+    let copy = copy_of(alloc, &Expr::Flag(true))?;
+    match &copy {
+        Expr::Flag(flag) => Ok(*flag),
         _ => Ok(false),
     }
 }
 
 fn copies_inf(alloc: Global) -> Result<bool, AllocError> {
-    match copy_of(alloc, &Expr::Inf)? {
+    let copy = copy_of(alloc, &Expr::Inf)?;
+    match &copy {
         Expr::Inf => Ok(true),
         _ => Ok(false),
     }
 }
 
 fn copies_none(alloc: Global) -> Result<bool, AllocError> {
-    match copy_of(alloc, &Expr::None)? {
+    let copy = copy_of(alloc, &Expr::None)?;
+    match &copy {
         Expr::None => Ok(true),
         _ => Ok(false),
     }
@@ -63,16 +68,18 @@ fn copies_none(alloc: Global) -> Result<bool, AllocError> {
 
 fn copies_two(alloc: Global) -> Result<bool, AllocError> {
     let product = Expr::Two(TwoOp::Mul, number(alloc, 2)?, number(alloc, 3)?);
-    match copy_of(alloc, &product)? {
+    let copy = copy_of(alloc, &product)?;
+    match &copy {
         Expr::Two(op, a, b) => {
-            Ok(op == TwoOp::Mul && is_number(a.get(), 2) && is_number(b.get(), 3))
+            Ok(*op == TwoOp::Mul && is_number(a.get(), 2) && is_number(b.get(), 3))
         }
         _ => Ok(false),
     }
 }
 
 fn copies_not(alloc: Global) -> Result<bool, AllocError> {
-    match copy_of(alloc, &Expr::Not(number(alloc, 2)?))? {
+    let copy = copy_of(alloc, &Expr::Not(number(alloc, 2)?))?;
+    match &copy {
         Expr::Not(a) => Ok(is_number(a.get(), 2)),
         _ => Ok(false),
     }
@@ -80,7 +87,8 @@ fn copies_not(alloc: Global) -> Result<bool, AllocError> {
 
 fn copies_if(alloc: Global) -> Result<bool, AllocError> {
     let choice = Expr::If(number(alloc, 2)?, number(alloc, 3)?, number(alloc, 4)?);
-    match copy_of(alloc, &choice)? {
+    let copy = copy_of(alloc, &choice)?;
+    match &copy {
         Expr::If(test, a, b) => {
             Ok(is_number(test.get(), 2) && is_number(a.get(), 3) && is_number(b.get(), 4))
         }
@@ -89,8 +97,9 @@ fn copies_if(alloc: Global) -> Result<bool, AllocError> {
 }
 
 fn copies_fun(alloc: Global) -> Result<bool, AllocError> {
-    match copy_of(alloc, &Expr::Fun(FunOp::Len, number(alloc, 2)?))? {
-        Expr::Fun(op, a) => Ok(op == FunOp::Len && is_number(a.get(), 2)),
+    let copy = copy_of(alloc, &Expr::Fun(FunOp::Len, number(alloc, 2)?))?;
+    match &copy {
+        Expr::Fun(op, a) => Ok(*op == FunOp::Len && is_number(a.get(), 2)),
         _ => Ok(false),
     }
 }

@@ -9,7 +9,7 @@ use Rattle.std.specs.Cmp.Lexicographic.{slice_cmp}
 use Rattle.std.specs.FinMap.{IsAntisymmetric, slice_cmp-IsAntisymmetric}
 use Rattle.std.proofs.lemmas.Bool.{and_parts}
 use Rattle.std.proofs.lemmas.Cmp.{lists_total}
-use Rattle.lara_key.specs.Orders.{IsRanked, coded_total, coded_antisymmetric}
+use Rattle.lara_key.specs.Orders.{IsRanked, ranked_total, ranked_antisymmetric}
 use Rattle.lara_key.specs.declared.key.KeyType.{KeyType}
 use Rattle.lara_key.specs.declared.key.KeyType.TheVariants as ty
 use Rattle.lara_key.specs.declared.key.KeyVal.{KeyVal}
@@ -56,6 +56,10 @@ tuple_has_at (t ∷ ts) (v ∷ vs) (suc i) d x h l = tuple_has_at ts vs i d x ((
 unfoldable pub key_is_over : KeyVal → Bool
 key_is_over (key.Nat n) = nat_le nat_over n
 
+-- the column holds a text, so that a copy takes memory
+abbrev pub key_holds_text : KeyVal → Bool
+key_holds_text (key.Nat n) = false
+
 -- columns of one type by their value, and of two types by the type
 abbrev pub key_cmp : KeyVal → KeyVal → Ordering
 key_cmp (key.Nat a) (key.Nat b) = nat_cmp a b
@@ -81,14 +85,14 @@ apart : (x y : KeyVal) → key_rank x ≡ key_rank y → x ≡ y
 unfolding key_rank
 apart (key.Nat a) (key.Nat b) e = ap key.Nat (cc)
 
-key_coded : IsRanked key_cmp key_rank
-key_coded = record { agrees = agrees; apart = apart }
+key_ranked : IsRanked key_cmp key_rank
+key_ranked = record { agrees = agrees; apart = apart }
 
 pub key_cmp_total : IsTotalOrder key_cmp
-key_cmp_total = coded_total key_coded
+key_cmp_total = ranked_total key_ranked
 
 pub key_cmp_antisymmetric : IsAntisymmetric key_cmp
-key_cmp_antisymmetric = coded_antisymmetric key_coded
+key_cmp_antisymmetric = ranked_antisymmetric key_ranked
 
 pub tuple_cmp_total : IsTotalOrder tuple_cmp
 unfolding tuple_cmp

@@ -1,6 +1,7 @@
 //! Key columns and tuples of them.
-ghost use Rattle.std.specs.Prelude.{◌≡◌, true, IfOk, IsOk};
-ghost use Rattle.lara_key.specs.Keys.{same_key_type};
+ghost use Rattle.std.specs.Prelude.{◌≡◌, false, IfOk, IsOk};
+ghost use Rattle.std.specs.List.{list_any};
+ghost use Rattle.lara_key.specs.Keys.{same_key_type, key_is_over, key_holds_text};
 
 use lara_base::{Copied, List};
 use std::alloc::{AllocError, Global};
@@ -32,7 +33,7 @@ impl Copied for KeyType {
 impl Copied for KeyVal {
     fn copy(&self, _alloc: Global) -> Result<KeyVal, AllocError>
         ensures same { IfOk result (λ r. r ≡ self.now) }
-        ensures exact { IsOk result }
+        ensures exact { key_holds_text self.now ≡ false → IsOk result }
     {
         match self {
             KeyVal::Nat(n) => Ok(KeyVal::Nat(*n)),
@@ -50,8 +51,6 @@ pub fn same_key_type(a: KeyType, b: KeyType) -> bool
 }
 
 impl KeyVal {
-    ghost use Rattle.lara_key.specs.Keys.{key_is_over};
-
     /// Whether the column stands for all that are beyond the range of its type.
     #[tactic(auto, unfolding(crate::specs::Keys::key_is_over))]
     pub fn is_over(&self) -> bool
@@ -61,4 +60,11 @@ impl KeyVal {
             KeyVal::Nat(n) => *n == u64::MAX,
         }
     }
+}
+
+/// Whether a column of the key is `over`.
+pub fn is_key_over(key: &Tuple) -> bool
+    ensures { result ≡ list_any key_is_over key.now }
+{
+    key.as_slice().iter().any(|column| column.is_over())
 }

@@ -1,5 +1,5 @@
 //! Keys by hand, in their order.
-use crate::{KeyType, KeyVal, Tuple, compare};
+use crate::{KeyType, KeyVal, Tuple, compare, is_key_over};
 use lara_base::{Copied, List};
 use std::alloc::{AllocError, Global};
 use std::cmp::Ordering;
@@ -103,4 +103,18 @@ fn columns_are_copied_and_compared(rt: HostRuntime) -> Result<(), Fail> {
 fn the_greatest_number_is_over(rt: HostRuntime) {
     assert!(rt; KeyVal::Nat(u64::MAX).is_over());
     assert!(rt; !KeyVal::Nat(u64::MAX - 1).is_over());
+}
+
+fn is_over(alloc: Global, numbers: &[u64]) -> Result<bool, AllocError> {
+    let key = tuple(alloc, numbers)?;
+    Ok(is_key_over(&key))
+}
+
+#[test]
+fn a_key_is_over_where_a_column_is(rt: HostRuntime) -> Result<(), Fail> {
+    let alloc = rt.alloc();
+    assert!(rt; is_over(alloc, &[3, u64::MAX])?);
+    assert!(rt; !is_over(alloc, &[3, u64::MAX - 1])?);
+    assert!(rt; !is_over(alloc, &[])?);
+    Ok(())
 }

@@ -1,2 +1,4 @@
 pub mod OverFacts
 pub mod ValueKinds
+pub mod WorkedRows
+pub mod WorkedValues

@@ -4,8 +4,8 @@ ghost use Rattle.lara_semiring.specs.Rows.{row_has};
 ghost use Rattle.lara_semiring.specs.declared.value.ValType.TheVariants.{Count};
 
 use crate::{
-    CountVal, Row, Semiring, ValType, Value, is_default, is_over, plus, row_plus, row_times, times,
-    zero,
+    CountVal, Row, Semiring, ValType, Value, is_default, is_over, is_row_over, plus, row_plus,
+    row_times, times, zero,
 };
 use lara_base::{Copied, List};
 use std::alloc::{AllocError, Global};
@@ -202,6 +202,21 @@ fn rows_of_zeros_are_default(rt: HostRuntime) -> Result<(), Fail> {
     assert!(rt; is_pair_default(alloc, 0, 0)?);
     assert!(rt; !is_pair_default(alloc, 0, 1)?);
     assert!(rt; !is_pair_default(alloc, 1, 0)?);
+    Ok(())
+}
+
+fn is_pair_over(alloc: Global, first: u64, second: u64) -> Result<bool, AllocError> {
+    let tys = two_counts(alloc)?;
+    let row = pair(alloc, first, second)?;
+    Ok(is_row_over(&tys, &row))
+}
+
+#[test]
+fn rows_are_over_where_a_column_is(rt: HostRuntime) -> Result<(), Fail> {
+    let alloc = rt.alloc();
+    assert!(rt; is_pair_over(alloc, 3, OVER)?);
+    assert!(rt; is_pair_over(alloc, OVER, 3)?);
+    assert!(rt; !is_pair_over(alloc, 3, OVER - 1)?);
     Ok(())
 }
 
