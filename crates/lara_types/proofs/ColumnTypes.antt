@@ -3,10 +3,9 @@ use Rattle.std.specs.Prelude.{◌≡◌, ℕ, Bool, true, false, cond, not, List
 use Rattle.std.proofs.Common.{refl, sym, ap, ◌∙◌}
 use Rattle.lara_data.specs.declared.refusal.Kind.TheVariants.{NameTwice, TooManyColumns}
 use Rattle.lara_data.specs.declared.refusal.Refusal.{Refusal}
-use Rattle.lara_data.specs.declared.refusal.ReadFault.{ReadFault}
 use Rattle.lara_data.specs.declared.table_type.KeyCol.{KeyCol}
 use Rattle.lara_data.specs.declared.table_type.ValCol.{ValCol}
-use Rattle.lara_data.specs.Judgements.{Judged, FaultJudges, refused}
+use Rattle.lara_data.specs.Judgements.{Judged, refused}
 use Rattle.lara_data.specs.Names.{Name, has}
 use Rattle.lara_data.specs.TableTypes.{Columns, are_columns, typed_columns}
 use Rattle.lara_syntax.specs.declared.ast.AstKeyCol.{AstKeyCol}

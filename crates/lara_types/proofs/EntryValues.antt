@@ -13,7 +13,7 @@ use Rattle.lara_types.specs.LiteralLaws.{entry_met}
 use Rattle.lara_types.specs.LiteralValues.{entry_value}
 use Rattle.lara_types.specs.NodeRules.{entry_rules, entries_rules}
 use Rattle.lara_types.specs.RuleLaws.{all_met, met_from, met_end, first_here, first_behind, none_broken, rules_met, rules_answer, rules_refused, rules_refuse}
-use Rattle.lara_types.specs.Rules.{Rule, AllMet, first_broken, by_rules}
+use Rattle.lara_types.specs.Rules.{AllMet, first_broken, by_rules}
 use Rattle.lara_types.proofs.LiteralFacts.{vals_are}
 
 pub ruleset behind_rules = (append_assoc, append-nil)

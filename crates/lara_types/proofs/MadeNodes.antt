@@ -1,6 +1,6 @@
 -- Nodes and statements that are made where their rules are met.
 use Rattle.std.specs.Prelude.{◌≡◌, ℕ, true, false, cond, not, List, map, Option, Some, None, Result, Ok, Err, IfOk, IfErr}
-use Rattle.std.proofs.Common.{refl, sym, ap, subst, ◌∙◌}
+use Rattle.std.proofs.Common.{refl, ap, subst, ◌∙◌}
 use Rattle.lara_data.specs.declared.node.Node.{Node}
 use Rattle.lara_data.specs.declared.node.Op.{Op}
 use Rattle.lara_data.specs.declared.node.Op.TheVariants as to
@@ -25,7 +25,7 @@ use Rattle.lara_types.specs.CheckedTrees.{typed, columns_in, literal}
 use Rattle.lara_types.specs.Checks.{order_in, printed}
 use Rattle.lara_types.specs.LiteralValues.{entry_value}
 use Rattle.lara_types.specs.NodeRuleLaws.{known_met}
-use Rattle.lara_types.specs.NodeRules.{known_rules, order_rules, print_rules, join_rules, union_rules, column_rules, entries_rules, literal_rules}
+use Rattle.lara_types.specs.NodeRules.{known_rules, order_rules, join_rules, union_rules, column_rules, entries_rules}
 use Rattle.lara_types.specs.RuleLaws.{rules_met, rules_map, rules_stop, rules_behind, rules_before}
 use Rattle.lara_types.specs.Rules.{unless, by_rules, first_broken}
 use Rattle.lara_types.specs.Written.{columns}

@@ -1,5 +1,5 @@
 -- What a tree with places stands for is typed.
-use Rattle.std.specs.Prelude.{◌≡◌, true, false, cond, ◌&&◌, ◌==◌, fold, List, [], ◌∷◌, length, Option, Some, None}
+use Rattle.std.specs.Prelude.{◌≡◌, true, false, cond, ◌==◌, fold, List, [], ◌∷◌, length, Option, Some, None}
 use Rattle.std.specs.List.{list_all}
 use Rattle.std.proofs.Common.{refl, sym, ap, ◌∙◌, subst}
 use Rattle.std.proofs.lemmas.Bool.{eq-eqb, and_from}
@@ -8,7 +8,7 @@ use Rattle.lara_data.specs.declared.node.Op.{Op}
 use Rattle.lara_data.specs.declared.node.Op.TheVariants as to
 use Rattle.lara_data.specs.declared.schema.Schema.{Schema}
 use Rattle.lara_data.specs.declared.script.Statement.{Statement}
-use Rattle.lara_data.specs.Names.{Name, same_name, has, among, among_itself}
+use Rattle.lara_data.specs.Names.{Name, same_name, has, among_itself}
 use Rattle.lara_data.specs.TableTypes.{Columns, key_names, are_columns}
 use Rattle.lara_data.specs.TypedScripts.{is_order, PrintTyped, StoreTyped, StatementTyped, known_after, AllTyped, ScriptTyped}
 use Rattle.lara_data.specs.TypedTrees.{newer_type, type_named, OpTyped}

@@ -1,24 +1,43 @@
 -- Refusals worked out by hand: each shows which rule comes first, and where it is broken.
-use Rattle.std.specs.Prelude.{◌≡◌, ◌-◌, ◌^◌, ℕ, true, false, List, [], ◌∷◌, Option, Some, None, Ok, Err}
+use Rattle.std.specs.Prelude.{◌≡◌, ◌-◌, ◌^◌, ℕ, List, [], ◌∷◌, Option, Some, None}
 use Rattle.std.proofs.Common.{refl}
 use Rattle.lara_key.specs.declared.key.KeyType.TheVariants as key_type
+use Rattle.lara_key.specs.declared.key.KeyVal.TheVariants as key_value
 use Rattle.lara_semiring.specs.declared.value.ValType.TheVariants as val_type
+use Rattle.lara_semiring.specs.declared.value.Value.TheVariants as value
+use Rattle.lara_data.specs.declared.node.Node.{Node}
+use Rattle.lara_data.specs.declared.node.Op.TheVariants as to
 use Rattle.lara_data.specs.declared.refusal.Kind.TheVariants.{NoName, NameTwice, TypesDiffer, NotInRange, NoCommonValue, NotAKey, NotAnOrder}
 use Rattle.lara_data.specs.declared.refusal.Refusal.{Refusal}
+use Rattle.lara_data.specs.declared.script.Statement.TheVariants.{Assign, Print}
 use Rattle.lara_data.specs.declared.table_type.KeyCol.{KeyCol}
 use Rattle.lara_data.specs.declared.table_type.ValCol.{ValCol}
-use Rattle.lara_data.specs.Algebra.{common_vals}
 use Rattle.lara_data.specs.Names.{Name, same_name, has}
-use Rattle.lara_data.specs.TableTypes.{Columns}
+use Rattle.lara_data.specs.TableTypes.{Columns, are_columns}
 use Rattle.lara_data.specs.TypeRules.{types_differ, key_differs, val_differs}
+use Rattle.lara_data.specs.TypedScripts.{is_order}
+use Rattle.lara_data.specs.TypedTrees.{type_named}
 use Rattle.lara_data.specs.Vals.{has_col, same_col}
-use Rattle.lara_syntax.specs.declared.ast.AstEntry.{AstEntry}
+use Rattle.lara_syntax.specs.declared.ast.Ast.{Ast}
+use Rattle.lara_syntax.specs.declared.ast.AstKeyCol.{AstKeyCol}
 use Rattle.lara_syntax.specs.declared.ast.AstLit.{AstLit}
 use Rattle.lara_syntax.specs.declared.ast.AstName.{AstName}
+use Rattle.lara_syntax.specs.declared.ast.AstNode.{AstNode}
+use Rattle.lara_syntax.specs.declared.ast.AstOp.TheVariants.{Named, Literal, Join}
+use Rattle.lara_syntax.specs.declared.ast.AstStatement.TheVariants as ast
+use Rattle.lara_syntax.specs.declared.ast.AstValCol.{AstValCol}
 use Rattle.lara_syntax.specs.declared.ast.AstValue.TheVariants.{Number, Inf}
-use Rattle.lara_types.specs.NodeRules.{key_rules, once_rules, join_rules, agg_rules, key_kind_rules, val_kind_rules, range_rules, entry_rules}
+use Rattle.lara_types.specs.CheckedTrees.{checked_op}
+use Rattle.lara_types.specs.Checks.{checked}
+use Rattle.lara_types.specs.Found.{checked_has}
+use Rattle.lara_types.specs.HasTypes.{HasTypes}
+use Rattle.lara_types.specs.LiteralValues.{key_values, row_values}
+use Rattle.lara_types.specs.NodeRules.{key_rules, once_rules, join_rules, agg_rules, key_kind_rules, val_kind_rules, range_rules, entry_rules, entries_rules, literal_rules, print_rules, rules_of}
+use Rattle.lara_types.specs.Refused.{operands, NodesHave, NodeRefused, here, below, Refused}
+use Rattle.lara_types.specs.RefusedLaws.{script_refused}
 use Rattle.lara_types.specs.RuleLaws.{is_broken}
 use Rattle.lara_types.specs.Rules.{FirstBroken, first_broken}
+use Rattle.lara_types.specs.Walks.{walk}
 
 -- names of one letter
 abbrev i : Name
@@ -94,3 +113,74 @@ range_last = is_broken (entry_rules ij_v (record { at = 20; key = number 20 1 �
 number_first : FirstBroken (entry_rules ij_v (record { at = 20; key = inf 20 ∷ []; row = inf 24 ∷ [] })) (record { at = 20; kind = TypesDiffer })
 unfolding first_broken
 number_first = is_broken (entry_rules ij_v (record { at = 20; key = inf 20 ∷ []; row = inf 24 ∷ [] })) (record { at = 20; kind = TypesDiffer }) refl
+
+-- ---- literals
+
+abbrev key_col : ℕ → Name → AstKeyCol
+key_col place n = record { name = at place n; ty = key_type.Nat }
+
+abbrev val_col : ℕ → Name → AstValCol
+val_col place n = record { name = at place n; ty = val_type.Count }
+
+-- a column's name that stands twice comes before the entries
+name_first : FirstBroken (literal_rules 2 (record { keys = key_col 8 i ∷ []; vals = val_col 14 i ∷ [] }) (record { at = 25; key = inf 25 ∷ []; row = inf 27 ∷ [] } ∷ [])) (record { at = 14; kind = NameTwice })
+unfolding first_broken once_rules entries_rules same_name has
+name_first = is_broken (literal_rules 2 (record { keys = key_col 8 i ∷ []; vals = val_col 14 i ∷ [] }) (record { at = 25; key = inf 25 ∷ []; row = inf 27 ∷ [] } ∷ [])) (record { at = 14; kind = NameTwice }) refl
+
+-- the entries are looked at one after the other: a number past its range in the first comes before a wrong kind in the next
+entry_first : FirstBroken (entries_rules i_w (record { at = 25; key = number 25 1 ∷ []; row = number 27 (2 ^ 64 - 1) ∷ [] } ∷ record { at = 30; key = inf 30 ∷ []; row = inf 32 ∷ [] } ∷ [])) (record { at = 27; kind = NotInRange })
+unfolding first_broken entries_rules key_kind_rules val_kind_rules range_rules
+entry_first = is_broken (entries_rules i_w (record { at = 25; key = number 25 1 ∷ []; row = number 27 (2 ^ 64 - 1) ∷ [] } ∷ record { at = 30; key = inf 30 ∷ []; row = inf 32 ∷ [] } ∷ [])) (record { at = 27; kind = NotInRange }) refl
+
+-- ---- trees
+
+-- a table of a name that was not assigned
+abbrev unknown : ℕ → AstNode
+unknown place = record { at = place; op = Named (at place j) }
+
+unknown_refused : (place : ℕ) → NodeRefused [] [] (unknown place) (record { at = place; kind = NoName })
+unfolding first_broken rules_of type_named operands NodesHave
+unknown_refused place = here (unknown place) [] (record { at = place; kind = NoName }) tt (is_broken (rules_of [] [] place (Named (at place j)) []) (record { at = place; kind = NoName }) refl)
+
+-- of two operands that are refused the left one counts
+left_first : NodeRefused [] [] (record { at = 2; op = Join (unknown 7) (unknown 9) }) (record { at = 7; kind = NoName })
+unfolding operands NodesHave Rattle.lara_syntax.specs.declared.ast.AstOp.TheBlock.hidden-the_row-AstNode-0 denote.Hole.Carrier.hidden
+left_first = below (record { at = 2; op = Join (unknown 7) (unknown 9) }) (unknown 7) [] (unknown 9 ∷ []) [] (record { at = 7; kind = NoName }) refl tt (unknown_refused 7)
+
+-- ---- statements
+
+-- a print of an unknown name with an order: the name comes first
+print_unknown : FirstBroken (print_rules (at 6 j) None (Some (record { at = 8; names = at 11 v ∷ [] }))) (record { at = 6; kind = NoName })
+unfolding first_broken
+print_unknown = is_broken (print_rules (at 6 j) None (Some (record { at = 8; names = at 11 v ∷ [] }))) (record { at = 6; kind = NoName }) refl
+
+-- a print by a value column
+print_disordered : FirstBroken (print_rules (at 6 j) (Some i_w) (Some (record { at = 8; names = at 11 w ∷ [] }))) (record { at = 8; kind = NotAnOrder })
+unfolding first_broken is_order same_name has
+print_disordered = is_broken (print_rules (at 6 j) (Some i_w) (Some (record { at = 8; names = at 11 w ∷ [] }))) (record { at = 8; kind = NotAnOrder }) refl
+
+-- a script that assigns a table and then prints another
+abbrev two_statements : Ast
+two_statements = record {
+  statements = ast.Assign 0 (at 0 i) (record { at = 2; op = Literal (record { keys = []; vals = val_col 9 v ∷ [] }) [] }) ∷ ast.Print 20 (at 26 j) None ∷ ast.Print 28 (at 34 w) None ∷ [];
+}
+
+-- the first statement has a type, so the second one's refusal counts, and not the third one's
+second_refused : Refused [] two_statements (record { at = 26; kind = NoName })
+unfolding checked walk checked_op first_broken once_rules entries_rules are_columns type_named same_name has
+second_refused = script_refused [] two_statements (record { at = 26; kind = NoName }) refl
+
+-- each table before has a type, and its name is known: nothing is refused
+abbrev one_statement : Ast
+one_statement = record {
+  statements = ast.Assign 0 (at 0 i) (record { at = 2; op = Literal (record { keys = key_col 8 j ∷ []; vals = val_col 14 v ∷ [] }) (record { at = 25; key = number 25 1 ∷ []; row = number 27 2 ∷ [] } ∷ []) })
+      ∷ ast.Print 30 (at 36 i) None ∷ [];
+}
+
+-- the table of the literal that it assigns
+abbrev assigned_table : Node
+assigned_table = record { ty = record { keys = key j ∷ []; vals = val v ∷ [] }; op = to.Literal (record { key = key_value.Nat 1 ∷ []; row = value.Count 2 ∷ [] } ∷ []) }
+
+one_typed : HasTypes [] one_statement (Assign i assigned_table ∷ Print i (j ∷ []) ∷ [])
+unfolding checked walk checked_op first_broken once_rules entries_rules key_kind_rules val_kind_rules range_rules key_values row_values are_columns type_named same_name has
+one_typed = checked_has [] one_statement (Assign i assigned_table ∷ Print i (j ∷ []) ∷ []) refl

@@ -7,11 +7,9 @@ use Rattle.std.proofs.lemmas.Bool.{ltb-true, lt-ltb, eqb-true, eq-eqb, and_parts
 use Rattle.lara_key.specs.declared.key.KeyType.{KeyType}
 use Rattle.lara_key.specs.declared.key.KeyType.TheVariants as key_type
 use Rattle.lara_key.specs.declared.key.KeyVal.{KeyVal}
-use Rattle.lara_key.specs.declared.key.KeyVal.TheVariants as key
 use Rattle.lara_semiring.specs.declared.value.ValType.{ValType}
 use Rattle.lara_semiring.specs.declared.value.ValType.TheVariants as val_type
 use Rattle.lara_semiring.specs.declared.value.Value.{Value}
-use Rattle.lara_semiring.specs.declared.value.Value.TheVariants as value
 use Rattle.lara_data.specs.declared.node.Node.{Node}
 use Rattle.lara_data.specs.declared.node.Op.TheVariants as to
 use Rattle.lara_data.specs.declared.table_type.KeyCol.{KeyCol}
@@ -33,7 +31,7 @@ use Rattle.lara_types.specs.Answered.{answered}
 use Rattle.lara_types.specs.CheckedTrees.{typed, literal}
 use Rattle.lara_types.specs.HasTypes.{IsKey, IsVal, AreKeys, AreVals, AreEntries, LiteralHas}
 use Rattle.lara_types.specs.LiteralValues.{key_value, row_value, key_values, row_values, entry_value}
-use Rattle.lara_types.specs.Literals.{is_key_lit, is_val_lit, is_in_range, is_whole}
+use Rattle.lara_types.specs.Literals.{is_key_lit, is_val_lit, is_in_range}
 use Rattle.lara_types.specs.NodeRuleLaws.{once_meets}
 use Rattle.lara_types.specs.NodeRules.{once_rules, key_kind_rules, val_kind_rules, range_rules, entry_rules, entries_rules, column_names, column_rules, literal_rules}
 use Rattle.lara_types.specs.RuleLaws.{met_parts, met_from, first_met, rest_met, met_cons, met_end, rules_met, rules_answer}
@@ -186,7 +184,7 @@ unfolding are_columns
 columns_meet at ty h =
     let keys = map key_col ty.keys in
     let vals = map val_col ty.vals in
-    let apart = (and_parts (nat_lt (length keys) 9 && nat_lt 0 (length vals) && nat_lt (length vals) 9) (are_distinct keys vals) h).1 in
+    let apart = (and_parts _ (are_distinct keys vals) h).1 in
     met_from (once_rules [] (column_names ty)) _ (once_meets [] (column_names ty) (distinct_all ty.keys ty.vals apart)) (met_cons _ _ h met_end)
 
 -- ---- literals

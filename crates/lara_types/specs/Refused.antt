@@ -1,6 +1,6 @@
 -- Why a tree stands for no typed script, with no walk: a node is refused by the first of its rules that is broken, where its
 -- operands stand for typed trees, or by the refusal of an operand, where those before it do.
-use Rattle.std.specs.Prelude.{◌≡◌, ℕ, List, [], ◌∷◌, ◌++◌, map}
+use Rattle.std.specs.Prelude.{◌≡◌, List, [], ◌∷◌, ◌++◌, map}
 use Rattle.lara_data.specs.declared.node.Node.{Node}
 use Rattle.lara_data.specs.declared.refusal.Kind.TheVariants.{NoName}
 use Rattle.lara_data.specs.declared.refusal.Refusal.{Refusal}

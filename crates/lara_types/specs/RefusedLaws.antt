@@ -1,5 +1,5 @@
 -- What is refused is judged so, and what is judged refused is refused, so that there is one refusal at most.
-use Rattle.std.specs.Prelude.{◌≡◌, ℕ, List, [], ◌∷◌, ◌++◌, map, Option, Ok, Err}
+use Rattle.std.specs.Prelude.{◌≡◌, ℕ, List, [], ◌∷◌, ◌++◌, map, Ok, Err}
 use Rattle.std.proofs.Common.{refl, sym, ap, subst, ◌∙◌}
 use Rattle.lara_data.specs.declared.node.Node.{Node}
 use Rattle.lara_data.specs.declared.node.Op.TheVariants as to

@@ -2,8 +2,6 @@
 use Rattle.std.specs.Prelude.{◌≡◌, true, false, cond, List, [], ◌∷◌, ◌++◌, Option, Some, None, Ok, Err}
 use Rattle.std.proofs.Common.{refl, sym, ap, subst, ◌∙◌}
 use Rattle.lara_data.specs.declared.refusal.Refusal.{Refusal}
-use Rattle.lara_data.specs.Judgements.{Judged}
-use Rattle.lara_base.specs.Results.{◌>>=◌}
 use Rattle.lara_types.specs.Answered.{answered, ok_is}
 use Rattle.lara_types.specs.Rules.{Rule, AllMet, FirstBroken, broken, first_broken, unless, by_rules}
 

@@ -5,7 +5,7 @@ use Rattle.lara_data.specs.declared.refusal.Kind.TheVariants.{NameTwice, TooMany
 use Rattle.lara_data.specs.Algebra.{common_vals, join_columns, union_columns, agg_columns}
 use Rattle.lara_data.specs.Names.{Name, distinct}
 use Rattle.lara_data.specs.TableTypes.{Columns}
-use Rattle.lara_data.specs.TypeRules.{Typing, is_none, too_many, few_enough, join_type, union_type, agg_type}
+use Rattle.lara_data.specs.TypeRules.{Typing, is_none, few_enough, join_type, union_type, agg_type}
 use Rattle.lara_data.specs.TypeRuleLaws.{IsJoin, IsUnion, IsAgg}
 
 -- the rules give these columns

@@ -1,5 +1,5 @@
 -- Steps over the items of a list, each of which may refuse.
-use Rattle.std.specs.Prelude.{List, [], ◌∷◌, Result, Ok, Err}
+use Rattle.std.specs.Prelude.{List, [], ◌∷◌, Result, Ok}
 use Rattle.lara_base.specs.Results.{◌>>=◌}
 
 -- a step for each item in turn, from a state on, up to the first refusal

@@ -1,6 +1,5 @@
 use Rattle.std.proofs.Common.{List}
 use Rattle.lara_key.specs.declared.key.KeyVal.{KeyVal}
-use Rattle.std.proofs.lemmas.List.{take_all}
 use Rattle.std.proofs.lemmas.Result.{err_from_is_err_and}
 use Rattle.lara_data.specs.TableTypes.{types}
 use Rattle.lara_data.specs.KeyedTypes.{all_have_none, all_have_push}

@@ -1,4 +1,4 @@
-use Rattle.std.proofs.Common.{sym, ap, ◌∙◌}
+use Rattle.std.proofs.Common.{ap}
 use Rattle.std.proofs.lemmas.Result.{err_from_is_err_and}
 use Rattle.lara_syntax.specs.declared.ast.AstType.{AstType}
 use Rattle.lara_types.proofs.ColumnNames.{fault_through}
