@@ -50,6 +50,8 @@ mod tests_plugins;
 #[cfg(test)]
 mod tests_random;
 #[cfg(test)]
+mod tests_report;
+#[cfg(test)]
 mod tests_stored;
 #[cfg(test)]
 mod tests_tables;

@@ -5,10 +5,9 @@ ghost use Rattle.std.specs.Prelude.{Some};
 use crate::arguments::arguments;
 use crate::call::call;
 use crate::invocation::{Invocation, SystemInvocation};
-use crate::outcome::Outcome;
-use crate::tests::words_of;
-use lara_base::{List, MemSink, MemSource, Word};
-use std::alloc::AllocError;
+use crate::tests::{is_held, sink, source, words_of};
+use lara_base::{List, Word};
+use std::alloc::{AllocError, Global};
 use std::env::{Env, FillError};
 use std::test::Fail;
 
@@ -46,62 +45,67 @@ impl Env for Told {
     }
 }
 
+// Whether these arguments are these words, from a list that tells them and from an environment.
+fn are_words(alloc: Global, whole: &[&[u8]], words: &[&[u8]]) -> Result<bool, AllocError> {
+    let told = Told {
+        arguments: words_of(alloc, whole)?,
+    };
+    let want = words_of(alloc, words)?;
+    Ok(arguments(alloc, &told)? == want && arguments(alloc, &SystemInvocation::new(&told))? == want)
+}
+
 #[test]
 fn arguments_are_words_in_their_order(rt: HostRuntime) -> Result<(), Fail> {
     let alloc = rt.alloc();
     let long = [b'x'; 600];
     let whole: [&[u8]; 5] = [b"lara", b"run", b"", b"\xff\0", &long];
     for count in 0..6usize {
-        let told = Told {
-            arguments: words_of(alloc, &whole[..count])?,
-        };
-        let want = words_of(alloc, &whole[count.min(1)..count])?;
-        assert!(rt; arguments(alloc, &told)? == want);
-        assert!(rt; arguments(alloc, &SystemInvocation::new(&told))? == want);
+        assert!(rt;
+            are_words(alloc, &whole[..count], &whole[count.min(1)..count])?,
+            "at {count}"
+        );
     }
     Ok(())
 }
 
-#[test]
-fn without_words_a_call_is_out_of_memory(rt: HostRuntime) -> Result<(), Fail> {
-    let alloc = rt.alloc();
-    let mut input = MemSource::new(List::new(alloc), 1, List::new(alloc));
-    let mut out = MemSink::new(alloc, 1, List::new(alloc));
-    let mut err = MemSink::new(alloc, 1, List::new(alloc));
+// The exit status of a call with these words over this script, or none where something else stands on `out` or on `err`
+// after it.
+fn call_status(
+    alloc: Global,
+    words: Result<List<Word>, AllocError>,
+    out_want: &[u8],
+    err_want: &[u8],
+) -> Result<Option<u8>, AllocError> {
+    let mut input = source(alloc, b"T = table [: v: count] { :4 }; print T;", 9, 0)?;
+    let mut out = sink(alloc, 9, 0)?;
+    let mut err = sink(alloc, 9, 0)?;
     let outcome = call(
         alloc,
-        Err(AllocError),
+        words,
         &mut input,
         &mut out,
         &mut err,
         &Vec::new(alloc),
     );
-    assert_eq!(rt; outcome, Outcome::Memory);
-    assert!(rt; out.bytes().is_empty());
-    assert_eq!(rt; err.bytes().as_slice(), b"lara: out of memory\n".as_slice());
+    if is_held(&out, out_want) && is_held(&err, err_want) {
+        Ok(Some(outcome.status()))
+    } else {
+        Ok(None)
+    }
+}
+
+#[test]
+fn without_words_a_call_is_out_of_memory(rt: HostRuntime) -> Result<(), Fail> {
+    let status = call_status(rt.alloc(), Err(AllocError), b"", b"lara: out of memory\n")?;
+    assert_eq!(rt; status, Some(11));
     Ok(())
 }
 
 #[test]
 fn with_words_a_call_is_that_of_lara(rt: HostRuntime) -> Result<(), Fail> {
     let alloc = rt.alloc();
-    let text = List::from_slice(alloc, b"T = table [: v: count] { :4 }; print T;")?;
-    let mut input = MemSource::new(text, 9, List::new(alloc));
-    let mut out = MemSink::new(alloc, 9, List::new(alloc));
-    let mut err = MemSink::new(alloc, 9, List::new(alloc));
-    let outcome = call(
-        alloc,
-        words_of(alloc, &[b"run"]),
-        &mut input,
-        &mut out,
-        &mut err,
-        &Vec::new(alloc),
-    );
-    assert_eq!(rt; outcome, Outcome::Done);
-    assert_eq!(rt;
-        out.bytes().as_slice(),
-        b"T[: v: count]\n:4\nend 1\n".as_slice()
-    );
-    assert!(rt; err.bytes().is_empty());
+    let words = words_of(alloc, &[b"run"]);
+    let status = call_status(alloc, words, b"T[: v: count]\n:4\nend 1\n", b"")?;
+    assert_eq!(rt; status, Some(0));
     Ok(())
 }

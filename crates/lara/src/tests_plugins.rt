@@ -1,8 +1,7 @@
 //! A call that is handed a plugin. No script has an apply yet, so it prints what it prints without.
 
-use crate::tests::words_of;
-use crate::{Outcome, lara};
-use lara_base::{List, MemSink, MemSource, Name};
+use crate::tests::{Case, NONE, status_with};
+use lara_base::{List, Name};
 use lara_data::{Arg, Plugin, TableType};
 use lara_key::{KeyType, Tuple};
 use std::alloc::{AllocError, Global};
@@ -59,19 +58,13 @@ fn plugins(alloc: Global) -> Result<Vec<Box<dyn Plugin>>, AllocError> {
 #[test]
 fn a_plugin_changes_no_script_without_applies(rt: HostRuntime) -> Result<(), Fail> {
     let alloc = rt.alloc();
-    let words = words_of(alloc, &[b"run"])?;
-    let text = List::from_slice(alloc, b"T = table [: v: count] { :4 }; print T;")?;
-    let mut input = MemSource::new(text, 9, List::new(alloc));
-    let mut out = MemSink::new(alloc, 9, List::new(alloc));
-    let mut err = MemSink::new(alloc, 9, List::new(alloc));
     let plugins = plugins(alloc)?;
-    assert_eq!(rt;
-        lara(alloc, &words, &mut input, &mut out, &mut err, &plugins),
-        Outcome::Done
-    );
-    assert_eq!(rt;
-        out.bytes().as_slice(),
-        b"T[: v: count]\n:4\nend 1\n".as_slice()
-    );
+    let case = Case {
+        words: &[b"run"],
+        script: b"T = table [: v: count] { :4 }; print T;",
+        out: b"T[: v: count]\n:4\nend 1\n",
+        err: b"",
+    };
+    assert_eq!(rt; status_with(alloc, &case, 9, &NONE, &plugins)?, Some(0));
     Ok(())
 }

@@ -1,19 +1,15 @@
 //! Random small tables: what the program prints of their joins, unions and aggs is the text of the plain operations'.
 ghost use Rattle.std.specs.Prelude.{◌≡◌, ◌<◌, ◌∷◌, [], true, IfOk};
 ghost use Rattle.lara_key.specs.declared.key.KeyType.TheVariants.{Nat};
-ghost use Rattle.lara_semiring.specs.Rows.{row_has};
 ghost use Rattle.lara_semiring.specs.declared.value.ValType.TheVariants.{Count};
 ghost use Rattle.lara_data.specs.KeyedTables.{all_have};
 
-use crate::Outcome;
-use crate::table_text::add_table_text;
-use crate::tests::{NONE, ran};
+use crate::tests::{Case, NONE, status};
+use crate::tests_tables::{entry, key_col, name, text_of, val_cols};
 use itoa::Buffer;
 use lara_assoc::{Assoc, agg, join, union};
 use lara_base::{Bytes, List, Name};
-use lara_data::{Entry, KeyCol, TableType, ValCol};
-use lara_key::{KeyType, KeyVal};
-use lara_semiring::{Row, ValType, Value};
+use lara_data::{Entry, TableType};
 use std::alloc::{AllocError, Global};
 use std::test::Fail;
 
@@ -115,52 +111,22 @@ fn script(alloc: Global, pair: &Pair, end: &[u8]) -> Result<Bytes, AllocError> {
 
 // Whether the program is done with the script and writes this text.
 fn prints(alloc: Global, script: &[u8], text: &[u8]) -> Result<bool, AllocError> {
-    let got = ran(alloc, &[b"run"], script, 4096, &NONE)?;
-    Ok(got.outcome == Outcome::Done && got.out.bytes().as_slice() == text)
+    let case = Case {
+        words: &[b"run"],
+        script,
+        out: text,
+        err: b"",
+    };
+    Ok(status(alloc, &case, 4096, &NONE)? == Some(0))
 }
 
-// The name of one letter. In the contracts below 105 is i, 106 j, 107 k and 118 v.
-fn name(alloc: Global, letter: u8) -> Result<Name, AllocError>
-    ensures { IfOk result (λ n. n ≡ letter ∷ []) }
-{
-    match Name::new(List::from_slice(alloc, &[letter])?) {
-        Some(name) => Ok(name),
-        None => Err(AllocError),
-    }
-}
-
-fn names(alloc: Global, letters: &[u8]) -> Result<List<Name>, AllocError> {
-    let mut names = List::new(alloc);
-    for letter in letters {
-        names.push(name(alloc, *letter)?)?;
-    }
-    Ok(names)
-}
-
+// The name k alone.
 fn name_k(alloc: Global) -> Result<List<Name>, AllocError>
     ensures { IfOk result (λ ns. ns ≡ (107 ∷ []) ∷ []) }
 {
     let mut names = List::new(alloc);
     names.push(name(alloc, b'k')?)?;
     Ok(names)
-}
-
-fn key_col(alloc: Global, letter: u8) -> Result<KeyCol, AllocError>
-    ensures { IfOk result (λ k. k ≡ record { name = letter ∷ []; ty = Nat }) }
-{
-    Ok(KeyCol {
-        name: name(alloc, letter)?,
-        ty: KeyType::Nat,
-    })
-}
-
-fn val_col(alloc: Global, letter: u8) -> Result<ValCol, AllocError>
-    ensures { IfOk result (λ v. v ≡ record { name = letter ∷ []; ty = Count }) }
-{
-    Ok(ValCol {
-        name: name(alloc, letter)?,
-        ty: ValType::Count,
-    })
 }
 
 // The type with these two key columns and the value column v.
@@ -170,33 +136,10 @@ fn columns(alloc: Global, first: u8, second: u8) -> Result<TableType, AllocError
     let mut keys = List::new(alloc);
     keys.push(key_col(alloc, first)?)?;
     keys.push(key_col(alloc, second)?)?;
-    let mut vals = List::new(alloc);
-    vals.push(val_col(alloc, b'v')?)?;
-    match TableType::new(keys, vals) {
+    match TableType::new(keys, val_cols(alloc)?) {
         Some(ty) => Ok(ty),
         None => Err(AllocError),
     }
-}
-
-#[tactic(auto, unfolding(lara_semiring::specs::Rows::row_has, lara_semiring::specs::Values::has_type))]
-fn row(alloc: Global, value: u64) -> Result<Row, AllocError>
-    ensures { IfOk result (λ r. row_has (Count ∷ []) r ≡ true) }
-{
-    let mut row = List::new(alloc);
-    row.push(Value::Count(value))?;
-    Ok(row)
-}
-
-fn entry(alloc: Global, cell: &Cell) -> Result<Entry, AllocError>
-    ensures { IfOk result (λ e. row_has (Count ∷ []) e.row ≡ true) }
-{
-    let mut key = List::new(alloc);
-    key.push(KeyVal::Nat(cell.first))?;
-    key.push(KeyVal::Nat(cell.second))?;
-    Ok(Entry {
-        key,
-        row: row(alloc, cell.value)?,
-    })
 }
 
 #[tactic(auto, using(lara_data::specs::KeyedTypes::all_have_steps))]
@@ -205,7 +148,7 @@ fn entries(alloc: Global, cells: &List<Cell>) -> Result<List<Entry>, AllocError>
 {
     let mut entries = List::new(alloc);
     for cell in cells.as_slice() {
-        entries.push(entry(alloc, cell)?)?;
+        entries.push(entry(alloc, &[cell.first, cell.second], cell.value)?)?;
     }
     Ok(entries)
 }
@@ -237,19 +180,6 @@ fn summed(alloc: Global, pair: &Pair) -> Result<Assoc, AllocError> {
     agg(alloc, &a, &keys)
 }
 
-// The text of the table under the name C, with its key columns in this order.
-fn text_of(alloc: Global, table: &Assoc, order: &[u8]) -> Result<Bytes, AllocError> {
-    let mut text = List::new(alloc);
-    add_table_text(
-        alloc,
-        &mut text,
-        &name(alloc, b'C')?,
-        &names(alloc, order)?,
-        table,
-    )?;
-    Ok(text)
-}
-
 // Whether the program printed the table's text, and whether the table has an entry.
 #[derive(Clone, Copy)]
 struct Compared {
@@ -266,7 +196,7 @@ fn compare(
     order: &[u8],
 ) -> Result<Compared, AllocError> {
     let script = script(alloc, pair, end)?;
-    let text = text_of(alloc, table, order)?;
+    let text = text_of(alloc, table, b'C', order)?;
     let same = prints(alloc, script.as_slice(), text.as_slice())?;
     let has_entry = !table.entries(alloc)?.is_empty();
     Ok(Compared { same, has_entry })

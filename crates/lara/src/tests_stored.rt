@@ -8,46 +8,23 @@ ghost use Rattle.lara_data.specs.Fits.{TablesOf, TablesTyped};
 ghost use Rattle.lara_data.specs.Names.{distinct};
 ghost use Rattle.lara_data.specs.TypedTables.{IsTypedTable};
 
+use crate::tests_tables::{key_col, name, val_cols};
 use lara_assoc::{Answers, Assoc, NamedTable, eval};
-use lara_base::{Bytes, List, Name};
-use lara_data::{Entry, KeyCol, Plugin, Schema, TableType, ValCol};
-use lara_key::{KeyType, KeyVal};
-use lara_semiring::{ValType, Value};
+use lara_base::{List, Name};
+use lara_data::{Entry, KeyCol, Plugin, Schema, TableType};
+use lara_key::KeyVal;
+use lara_semiring::Value;
 use lara_syntax::{Ast, AstName, AstStatement, parse};
 use lara_types::check;
 use std::alloc::{AllocError, Global};
 use std::test::Fail;
 
-// The name of one letter. In the contracts below 66 is B, 107 k and 118 v.
-fn name(alloc: Global, letter: u8) -> Result<Name, AllocError>
-    ensures { IfOk result (λ n. n ≡ letter ∷ []) }
-{
-    match Name::new(Bytes::from_slice(alloc, &[letter])?) {
-        Some(name) => Ok(name),
-        None => Err(AllocError),
-    }
-}
-
 fn key_cols(alloc: Global) -> Result<List<KeyCol>, AllocError>
     ensures { IfOk result (λ keys. keys ≡ record { name = 107 ∷ []; ty = Nat } ∷ []) }
 {
     let mut keys = List::new(alloc);
-    keys.push(KeyCol {
-        name: name(alloc, b'k')?,
-        ty: KeyType::Nat,
-    })?;
+    keys.push(key_col(alloc, b'k')?)?;
     Ok(keys)
-}
-
-fn val_cols(alloc: Global) -> Result<List<ValCol>, AllocError>
-    ensures { IfOk result (λ vals. vals ≡ record { name = 118 ∷ []; ty = Count } ∷ []) }
-{
-    let mut vals = List::new(alloc);
-    vals.push(ValCol {
-        name: name(alloc, b'v')?,
-        ty: ValType::Count,
-    })?;
-    Ok(vals)
 }
 
 // The key column k and the value column v.
@@ -180,22 +157,36 @@ fn is_b(alloc: Global, table: &Assoc) -> Result<bool, AllocError> {
     }
 }
 
-#[test]
-fn a_stored_table_is_printed_and_stored(rt: HostRuntime) -> Result<(), Fail> {
-    let alloc = rt.alloc();
+// Whether one table was printed, A by the second statement, and it is B.
+fn is_printed(alloc: Global, answers: &Answers) -> Result<bool, AllocError> {
+    match answers.prints.as_slice() {
+        [print] => {
+            let is_b = is_b(alloc, &print.table)?;
+            Ok(is_b && print.statement == 2 && is_letter(&print.name, b'A'))
+        }
+        _ => Ok(false),
+    }
+}
+
+// Whether one table was stored, as K by the third statement, and it is B.
+fn is_stored(alloc: Global, answers: &Answers) -> Result<bool, AllocError> {
+    match answers.stores.as_slice() {
+        [store] => {
+            let is_b = is_b(alloc, &store.table)?;
+            Ok(is_b && store.statement == 3 && is_letter(&store.name, b'K'))
+        }
+        _ => Ok(false),
+    }
+}
+
+fn script_prints_and_stores(alloc: Global) -> Result<(bool, bool), AllocError> {
     let tree = script(alloc)?;
     let answers = evaluated_over_one(alloc, &tree)?;
-    assert_eq!(rt; answers.prints.len(), 1);
-    assert_eq!(rt; answers.stores.len(), 1);
-    if let Some(print) = answers.prints.get(0) {
-        assert_eq!(rt; print.statement, 2);
-        assert!(rt; is_letter(&print.name, b'A'));
-        assert!(rt; is_b(alloc, &print.table)?);
-    }
-    if let Some(store) = answers.stores.get(0) {
-        assert_eq!(rt; store.statement, 3);
-        assert!(rt; is_letter(&store.name, b'K'));
-        assert!(rt; is_b(alloc, &store.table)?);
-    }
+    Ok((is_printed(alloc, &answers)?, is_stored(alloc, &answers)?))
+}
+
+#[test]
+fn a_stored_table_is_printed_and_stored(rt: HostRuntime) -> Result<(), Fail> {
+    assert_eq!(rt; script_prints_and_stores(rt.alloc())?, (true, true));
     Ok(())
 }
