@@ -14,7 +14,8 @@ use Rattle.lara_data.specs.declared.table_type.ValCol.{ValCol}
 use Rattle.lara_data.specs.TableTypes.{Columns}
 use Rattle.lara_data.specs.declared.entry.Keyed.{Keyed}
 use Rattle.lara_data.specs.Names.{same_name}
-use Rattle.lara_data.specs.Tables.{stored, Table}
+use Rattle.lara_data.specs.Algebra.{ordered}
+use Rattle.lara_data.specs.Tables.{Table}
 
 -- the texts of the items, with a text between each two
 abbrev pub joined : {X : Type 0} → List ℕ → (X → List ℕ) → List X → List ℕ
@@ -73,4 +74,4 @@ end_text cells = codes "end " ++ decimal cells ++ codes "\n"
 
 -- the head, a line for each cell in the rising order of the permuted keys, and the end with the number of cells
 unfoldable pub table_text : List ℕ → List (List ℕ) → Table → List ℕ
-table_text name order t = head_text name order t.ty ++ flat_map cell_text (stored t order) ++ end_text (length (stored t order))
+table_text name order t = head_text name order t.ty ++ flat_map cell_text (ordered t order) ++ end_text (length (ordered t order))
