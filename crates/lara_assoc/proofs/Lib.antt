@@ -9,4 +9,5 @@ pub mod Places
 pub mod RangeFacts
 pub mod RowFacts
 pub mod RunningFacts
+pub mod SumFacts
 pub mod TableFacts

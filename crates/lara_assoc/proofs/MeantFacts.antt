@@ -1,7 +1,6 @@
 -- The operands of a tree that is meant are meant, and what is made of their tables is what the tree means.
-use Rattle.std.proofs.Common.{◌≡◌, true, List, sym, ap, ◌∙◌, refl, Result, Ok, Err, IfOk}
+use Rattle.std.proofs.Common.{◌≡◌, true, List, sym, ap, ◌∙◌, refl}
 use Rattle.std.proofs.Math.Path.{subst}
-use Rattle.std.specs.declared.alloc.AllocError.{AllocError}
 use Rattle.lara_data.specs.declared.node.Node.{Node}
 use Rattle.lara_data.specs.declared.node.Op.{Op}
 use Rattle.lara_data.specs.declared.node.Op.TheVariants.{Load, Named, Literal, Join, Union, Agg, Map, Filter, Promote, Rename, Apply}
@@ -32,10 +31,6 @@ typed_as known node o T e q h = subst (λ (X : Type 0). X) q (subst (λ (p : Op)
 
 fits_as : (ps : Plugins) (db : Database) (node : Node) (o : Op) (T : Type 0) → node.op ≡ o → OpFits ps db o node.ty ≡ T → OpFits ps db node.op node.ty → T
 fits_as ps db node o T e q h = subst (λ (X : Type 0). X) q (subst (λ (p : Op). OpFits ps db p node.ty) e h)
-
-pub ok_is : (r : Result Table AllocError) (s t : Table) → s ≡ t → IfOk r (λ x. x ≡ s) → IfOk r (λ x. x ≡ t)
-ok_is (Err _) s t e h = tt
-ok_is (Ok x) s t e h = h ∙ e
 
 module _ (ps : Plugins) (db : Database) (tables : List NamedTable) where
   its_table : (node : Node) → IsMeant ps db tables node → IsTableOf node.ty (meaning_of ps db tables node)
@@ -126,6 +121,14 @@ module _ (ps : Plugins) (db : Database) (tables : List NamedTable) where
       let s = its_table a (agg_below node a a ks e refl h) in
       ap (λ (z : Table). are_columns (agg_columns z.ty ks).keys (agg_columns z.ty ks).vals) (p ∙ ap (meaning_of ps db tables) i)
       ∙ (IsTableOf-agg (meaning_of ps db tables a) a.ty ks node.ty s (agg_type_rules a.ty ks node.ty t.0)).typed.columns
+
+  -- aggs of joins
+  pub agg_join_means : (node a x l r y z : Node) (ks : List Name) (s t : Table) → node.op ≡ Agg a ks → x ≡ a → x.op ≡ Join l r → y ≡ l → z ≡ r → s ≡ meaning_of ps db tables y → t ≡ meaning_of ps db tables z → agg_table (join_tables s t) ks ≡ meaning_of ps db tables node
+  agg_join_means node a x l r y z ks s t e i o p q u v = agg_means node a x ks (join_tables s t) e i (join_means x l r y z s t o p q u v)
+
+  pub agg_join_are : (node a x l r y z : Node) (ks : List Name) (s t : Table) → node.op ≡ Agg a ks → x ≡ a → x.op ≡ Join l r → y ≡ l → z ≡ r → IsMeant ps db tables node → s ≡ meaning_of ps db tables y → t ≡ meaning_of ps db tables z → are_columns (agg_columns (join_columns s.ty t.ty) ks).keys (agg_columns (join_columns s.ty t.ty) ks).vals ≡ true
+  unfolding join_tables
+  agg_join_are node a x l r y z ks s t e i o p q h u v = agg_are node a x ks (join_tables s t) e i h (join_means x l r y z s t o p q u v)
 
   -- no tree that is meant has an operator without a type
   pub no_map : (node a : Node) (ds : List Def) → node.op ≡ Map a ds → IsMeant ps db tables node → ⊥

@@ -9,12 +9,11 @@ use lara_data::agg_columns;
 use std::alloc::{AllocError, Global};
 
 /// The table summed by these key columns.
-#[tactic(auto, unfolding(lara_data::specs::Algebra::agg_table, lara_data::specs::Algebra::agg, lara_data::specs::Tables::table_of))]
 pub fn agg(alloc: Global, a: &Assoc, keys: &List<Name>) -> Result<Assoc, AllocError>
     requires { are_columns (agg_columns a.now.ty keys.now).keys (agg_columns a.now.ty keys.now).vals ≡ true }
     ensures { IfOk result (λ r. r ≡ agg_table a.now keys.now) }
 {
     let ty = agg_columns(alloc, a.ty(), keys)?;
-    let list = a.recut(alloc, keys)?;
-    Assoc::total(alloc, &ty, &list)
+    let sums = a.recut(alloc, keys)?;
+    Assoc::of_sums(alloc, ty, sums)
 }

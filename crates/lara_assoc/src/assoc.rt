@@ -1,22 +1,21 @@
 //! A table on an ordered map.
-ghost use Rattle.std.specs.Prelude.{◌≡◌, true, [], IfOk, OnOk};
+ghost use Rattle.std.specs.Prelude.{◌≡◌, true, [], IfOk};
 ghost use Rattle.std.specs.List.Sorted.{IsPermutation};
 ghost use Rattle.lara_key.specs.Keys.{tuple_cmp};
-ghost use Rattle.lara_semiring.specs.Rows.{row_has};
-ghost use Rattle.lara_data.specs.KeyedTables.{all_have, rises, total};
-ghost use Rattle.lara_data.specs.KeyedPuts.{put};
+ghost use Rattle.lara_data.specs.KeyedTables.{all_have, SameAt};
 ghost use Rattle.lara_data.specs.MapTables.{of_pairs};
 ghost use Rattle.lara_data.specs.Tables.{Entries, table_of, recut, stored, is_in_range};
 ghost use Rattle.lara_data.specs.TableTypes.{types, key_names};
 
-use crate::keys::cut;
+use crate::keys::{picked, places};
 use crate::range::{is_key_over, is_row_over};
+use crate::sums::Sums;
 use lara_base::{Copied, List, Name};
-use lara_data::{Entry, TableType, val_types};
+use lara_data::{Entry, TableType};
 use lara_key::Tuple;
-use lara_semiring::{Row, ValType, is_default, row_plus};
+use lara_semiring::Row;
 use std::alloc::{AllocError, Global};
-use std::collections::BTreeMap;
+use std::collections::{BTreeMap, btree_map};
 use std::marker::Model;
 use std::rc::Rc;
 
@@ -42,53 +41,6 @@ impl Model for Assoc {
     ghost invariant = { λ a. IsTypedList tuple_cmp (types a.ty.vals) (of_pairs a.rows.value.entries) };
 }
 
-// Sums one more entry into a map. A key whose sum is default goes.
-fn put_entry(
-    alloc: Global,
-    tys: &List<ValType>,
-    rows: &mut BTreeMap<Tuple, Row>,
-    entry: &Entry,
-) -> Result<(), AllocError>
-    requires typed { row_has tys.now entry.now.row ≡ true }
-    requires all { all_have tys.now (of_pairs rows.old.entries) ≡ true }
-    requires rising { rises tuple_cmp (of_pairs rows.old.entries) ≡ true }
-    ensures { OnOk result (of_pairs rows.new.entries ≡ put tuple_cmp tys.now entry.now (of_pairs rows.old.entries)) }
-{
-    match rows.get(&entry.key) {
-        None => {
-            if !is_default(tys, &entry.row) {
-                rows.insert(entry.key.copy(alloc)?, entry.row.copy(alloc)?)?;
-            }
-        }
-        Some(row) => {
-            let sum = row_plus(alloc, tys, &entry.row, row)?;
-            if is_default(tys, &sum) {
-                rows.remove(&entry.key);
-            } else {
-                rows.insert(entry.key.copy(alloc)?, sum)?;
-            }
-        }
-    }
-    Ok(())
-}
-
-// The map of a list of entries.
-fn summed(
-    alloc: Global,
-    tys: &List<ValType>,
-    entries: &List<Entry>,
-) -> Result<BTreeMap<Tuple, Row>, AllocError>
-    requires { all_have tys.now entries.now ≡ true }
-    ensures { IfOk result (λ m. of_pairs m.entries ≡ total tuple_cmp tys.now entries.now) }
-{
-    let list = entries.as_slice();
-    let mut rows = BTreeMap::new(alloc);
-    for entry in list {
-        put_entry(alloc, tys, &mut rows, entry)?;
-    }
-    Ok(rows)
-}
-
 impl Assoc {
     /// The table of a list of entries, whose rows are of the type: at each key the sum of the rows that are listed
     /// with it.
@@ -97,11 +49,21 @@ impl Assoc {
         ensures table { IfOk result (λ a. a ≡ table_of ty.now entries.now) }
         ensures any_order { (others : Entries) → IsPermutation others entries.now → IfOk result (λ a. a ≡ table_of ty.now others) }
     {
-        let tys = val_types(alloc, &ty.vals)?;
-        let rows = summed(alloc, &tys, entries)?;
+        let mut sums = Sums::new(alloc, &ty.vals)?;
+        for entry in entries.as_slice() {
+            sums.add(alloc, entry.key.copy(alloc)?, entry.row.copy(alloc)?)?;
+        }
+        Assoc::of_sums(alloc, ty.copy(alloc)?, sums)
+    }
+
+    /// The table of each list of entries that has these sums.
+    pub(crate) fn of_sums(alloc: Global, ty: TableType, sums: Sums) -> Result<Assoc, AllocError>
+        requires { sums.types ≡ types ty.vals }
+        ensures { (es : Entries) → SameAt tuple_cmp sums.types sums.entries es → IfOk result (λ a. a ≡ table_of ty es) }
+    {
         Ok(Assoc {
-            ty: ty.copy(alloc)?,
-            rows: Rc::new(alloc, rows)?,
+            ty,
+            rows: Rc::new(alloc, sums.into_rows())?,
         })
     }
 
@@ -120,6 +82,14 @@ impl Assoc {
         &self.ty
     }
 
+    // The keys with their rows, in rising order, in place.
+    pub(crate) fn iter(&self) -> btree_map::Iter<'_, Tuple, Row>
+        ensures rest { of_pairs result ≡ self.now.entries }
+        ensures typed { all_have (types self.now.ty.vals) self.now.entries ≡ true }
+    {
+        self.rows.as_ref().iter()
+    }
+
     /// The keys with their rows, in rising order.
     pub fn entries(&self, alloc: Global) -> Result<List<Entry>, AllocError>
         ensures value { IfOk result (λ es. es ≡ self.now.entries) }
@@ -135,20 +105,17 @@ impl Assoc {
         Ok(list)
     }
 
-    // The entries with their key columns in the given order.
-    #[tactic(auto, unfolding(lara_data::specs::Tables::recut))]
-    pub(crate) fn recut(&self, alloc: Global, order: &List<Name>) -> Result<List<Entry>, AllocError>
-        ensures value { IfOk result (λ es. es ≡ recut (key_names self.now.ty.keys) order.now self.now.entries) }
-        ensures typed { IfOk result (λ es. all_have (types self.now.ty.vals) es ≡ true) }
+    // The sums of the entries with their key columns in the given order.
+    pub(crate) fn recut(&self, alloc: Global, order: &List<Name>) -> Result<Sums, AllocError>
+        ensures types { IfOk result (λ s. s.types ≡ types self.now.ty.vals) }
+        ensures sums { IfOk result (λ s. SameAt tuple_cmp s.types s.entries (recut (key_names self.now.ty.keys) order.now self.now.entries)) }
     {
-        let mut list = List::new(alloc);
+        let places = places(alloc, &self.ty.keys, order)?;
+        let mut sums = Sums::new(alloc, &self.ty.vals)?;
         for (key, row) in self.rows.as_ref().iter() {
-            list.push(Entry {
-                key: cut(alloc, &self.ty.keys, order, key)?,
-                row: row.copy(alloc)?,
-            })?;
+            sums.add(alloc, picked(alloc, &places, key)?, row.copy(alloc)?)?;
         }
-        Ok(list)
+        Ok(sums)
     }
 
     /// The entries with their key columns in the given order, rising.
@@ -156,8 +123,7 @@ impl Assoc {
     pub fn entries_by(&self, alloc: Global, order: &List<Name>) -> Result<List<Entry>, AllocError>
         ensures { IfOk result (λ es. es ≡ stored self.now order.now) }
     {
-        let list = self.recut(alloc, order)?;
-        Assoc::total(alloc, &self.ty, &list)?.entries(alloc)
+        self.recut(alloc, order)?.into_entries(alloc)
     }
 
     /// Whether no key column and no value is `over`.

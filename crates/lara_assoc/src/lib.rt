@@ -7,11 +7,11 @@ mod assoc;
 mod groups;
 mod joins;
 mod keys;
-mod lists;
 mod named;
 mod range;
 mod rows;
 mod scripts;
+mod sums;
 mod trees;
 mod unions;
 

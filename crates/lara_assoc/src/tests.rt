@@ -1,10 +1,11 @@
-//! The calls where there is memory, with entries worked out by hand.
+//! The calls where there is memory, with entries worked out by hand. What a test compares, a helper answers.
 ghost use Rattle.std.specs.Prelude.{◌≡◌, ◌∷◌, [], true, IfOk};
 ghost use Rattle.lara_key.specs.declared.key.KeyType.TheVariants.{Nat};
 ghost use Rattle.lara_semiring.specs.Rows.{row_has};
 ghost use Rattle.lara_semiring.specs.declared.value.ValType.TheVariants.{Count};
 ghost use Rattle.lara_data.specs.KeyedTables.{all_have};
 
+use crate::joins::agg_of_join;
 use crate::{Assoc, agg, join, union};
 use lara_base::{Copied, List, Name};
 use lara_data::{Entry, KeyCol, TableType, ValCol};
@@ -181,6 +182,18 @@ fn names_ij(alloc: Global) -> Result<List<Name>, AllocError>
     Ok(names)
 }
 
+// The product summed by i and j, with no table of the products.
+fn summed_at_once(
+    alloc: Global,
+    left: &[(&[u64], u64)],
+    right: &[(&[u64], u64)],
+) -> Result<Assoc, AllocError> {
+    let a = matrix(alloc, b'i', b'k', left)?;
+    let b = matrix(alloc, b'k', b'j', right)?;
+    let names = names_ij(alloc)?;
+    agg_of_join(alloc, &a, &b, &names)
+}
+
 // The product summed by i and j.
 fn summed(
     alloc: Global,
@@ -248,83 +261,158 @@ fn are(entries: &[Entry], want: &[(&[u64], &[u64])]) -> bool {
     true
 }
 
+// Whether a table has these keys with these rows, and no others.
+fn has(alloc: Global, table: &Assoc, want: &[(&[u64], &[u64])]) -> Result<bool, AllocError> {
+    let entries = table.entries(alloc)?;
+    Ok(are(entries.as_slice(), want))
+}
+
+fn product_has(
+    alloc: Global,
+    left: &[(&[u64], u64)],
+    right: &[(&[u64], u64)],
+    want: &[(&[u64], &[u64])],
+) -> Result<bool, AllocError> {
+    let all = product(alloc, left, right)?;
+    has(alloc, &all, want)
+}
+
+fn sums_have(
+    alloc: Global,
+    left: &[(&[u64], u64)],
+    right: &[(&[u64], u64)],
+    want: &[(&[u64], &[u64])],
+) -> Result<bool, AllocError> {
+    let sums = summed(alloc, left, right)?;
+    has(alloc, &sums, want)
+}
+
+fn sums_at_once_have(
+    alloc: Global,
+    left: &[(&[u64], u64)],
+    right: &[(&[u64], u64)],
+    want: &[(&[u64], &[u64])],
+) -> Result<bool, AllocError> {
+    let sums = summed_at_once(alloc, left, right)?;
+    has(alloc, &sums, want)
+}
+
+fn both_have(
+    alloc: Global,
+    left: &[(&[u64], u64)],
+    right: &[(&[u64], u64)],
+    want: &[(&[u64], &[u64])],
+) -> Result<bool, AllocError> {
+    let all = both(alloc, left, right)?;
+    has(alloc, &all, want)
+}
+
+fn joined_pairs_have(
+    alloc: Global,
+    left: (u64, u64),
+    right: (u64, u64),
+    want: &[(&[u64], &[u64])],
+) -> Result<bool, AllocError> {
+    let all = joined_pairs(alloc, left, right)?;
+    has(alloc, &all, want)
+}
+
+// How many key columns and how many value columns a table has.
+fn widths(table: &Assoc) -> (usize, usize) {
+    (table.ty().keys.len(), table.ty().vals.len())
+}
+
 #[test]
 fn a_product_has_an_entry_for_each_two_that_agree(rt: HostRuntime) -> Result<(), Fail> {
     let alloc = rt.alloc();
-    let all = product(
-        alloc,
-        &[(&[1, 1], 2), (&[1, 2], 3)],
-        &[(&[1, 5], 10), (&[2, 5], 100)],
-    )?;
-    let entries = all.entries(alloc)?;
     assert!(rt;
-        are(
-            entries.as_slice(),
-            &[(&[1, 1, 5], &[20]), (&[1, 2, 5], &[300])]
-        )
+        product_has(
+            alloc,
+            &[(&[1, 1], 2), (&[1, 2], 3)],
+            &[(&[1, 5], 10), (&[2, 5], 100)],
+            &[(&[1, 1, 5], &[20]), (&[1, 2, 5], &[300])],
+        )?
     );
-    assert_eq!(rt; all.ty().keys.len(), 3);
-    assert_eq!(rt; all.ty().vals.len(), 1);
-    assert!(rt; all.is_in_range());
-    Ok(())
-}
-
-#[test]
-fn the_sum_of_a_product_is_the_product_of_matrices(rt: HostRuntime) -> Result<(), Fail> {
-    let alloc = rt.alloc();
-    let sums = summed(
-        alloc,
-        &[(&[1, 1], 2), (&[1, 2], 3)],
-        &[(&[1, 5], 10), (&[2, 5], 100)],
-    )?;
-    let entries = sums.entries(alloc)?;
-    assert!(rt; are(entries.as_slice(), &[(&[1, 5], &[320])]));
-    assert_eq!(rt; sums.ty().keys.len(), 2);
-    Ok(())
-}
-
-#[test]
-fn a_union_has_the_values_of_both(rt: HostRuntime) -> Result<(), Fail> {
-    let alloc = rt.alloc();
-    let all = both(alloc, &[(&[1], 5)], &[(&[1], 7), (&[2], 9)])?;
-    let entries = all.entries(alloc)?;
-    assert!(rt; are(entries.as_slice(), &[(&[1], &[5, 7]), (&[2], &[0, 9])]));
-    assert_eq!(rt; all.ty().keys.len(), 1);
-    assert_eq!(rt; all.ty().vals.len(), 2);
-    Ok(())
-}
-
-#[test]
-fn a_product_of_zeros_is_no_entry(rt: HostRuntime) -> Result<(), Fail> {
-    let alloc = rt.alloc();
-    let none = joined_pairs(alloc, (3, 0), (0, 4))?;
-    assert_eq!(rt; none.entries(alloc)?.len(), 0);
-    let some = joined_pairs(alloc, (3, 2), (0, 4))?;
-    assert!(rt; are(some.entries(alloc)?.as_slice(), &[(&[1], &[0, 8])]));
-    Ok(())
-}
-
-#[test]
-fn no_entries_are_an_empty_table(rt: HostRuntime) -> Result<(), Fail> {
-    let alloc = rt.alloc();
-    let none = vector(alloc, b'v', &[])?;
-    assert_eq!(rt; none.entries(alloc)?.len(), 0);
-    assert!(rt; none.is_in_range());
-    let united = both(alloc, &[], &[])?;
-    assert_eq!(rt; united.entries(alloc)?.len(), 0);
-    assert_eq!(rt; united.ty().vals.len(), 2);
     Ok(())
 }
 
 #[test]
 fn keys_that_agree_with_none_are_in_no_product(rt: HostRuntime) -> Result<(), Fail> {
     let alloc = rt.alloc();
-    let apart = product(alloc, &[(&[1, 2], 3)], &[(&[1, 5], 10)])?;
-    assert_eq!(rt; apart.entries(alloc)?.len(), 0);
-    assert_eq!(rt; apart.ty().keys.len(), 3);
-    let sums = summed(alloc, &[(&[1, 2], 3)], &[])?;
-    assert_eq!(rt; sums.entries(alloc)?.len(), 0);
-    assert_eq!(rt; sums.ty().keys.len(), 2);
+    assert!(rt; product_has(alloc, &[(&[1, 2], 3)], &[(&[1, 5], 10)], &[])?);
+    assert!(rt; sums_have(alloc, &[(&[1, 2], 3)], &[], &[])?);
+    Ok(())
+}
+
+#[test]
+fn the_sum_of_a_product_is_the_product_of_matrices(rt: HostRuntime) -> Result<(), Fail> {
+    let alloc = rt.alloc();
+    assert!(rt;
+        sums_have(
+            alloc,
+            &[(&[1, 1], 2), (&[1, 2], 3)],
+            &[(&[1, 5], 10), (&[2, 5], 100)],
+            &[(&[1, 5], &[320])],
+        )?
+    );
+    Ok(())
+}
+
+#[test]
+fn a_product_is_summed_at_once(rt: HostRuntime) -> Result<(), Fail> {
+    let alloc = rt.alloc();
+    assert!(rt;
+        sums_at_once_have(
+            alloc,
+            &[(&[1, 1], 2), (&[1, 2], 3)],
+            &[(&[1, 5], 10), (&[2, 5], 100)],
+            &[(&[1, 5], &[320])],
+        )?
+    );
+    Ok(())
+}
+
+#[test]
+fn a_union_has_the_values_of_both(rt: HostRuntime) -> Result<(), Fail> {
+    let alloc = rt.alloc();
+    assert!(rt;
+        both_have(
+            alloc,
+            &[(&[1], 5)],
+            &[(&[1], 7), (&[2], 9)],
+            &[(&[1], &[5, 7]), (&[2], &[0, 9])],
+        )?
+    );
+    assert!(rt; both_have(alloc, &[], &[], &[])?);
+    Ok(())
+}
+
+#[test]
+fn a_product_of_zeros_is_no_entry(rt: HostRuntime) -> Result<(), Fail> {
+    let alloc = rt.alloc();
+    assert!(rt; joined_pairs_have(alloc, (3, 0), (0, 4), &[])?);
+    assert!(rt; joined_pairs_have(alloc, (3, 2), (0, 4), &[(&[1], &[0, 8])])?);
+    Ok(())
+}
+
+fn product_widths(alloc: Global) -> Result<(usize, usize), AllocError> {
+    Ok(widths(&product(alloc, &[], &[])?))
+}
+
+fn sum_widths(alloc: Global) -> Result<(usize, usize), AllocError> {
+    Ok(widths(&summed(alloc, &[], &[])?))
+}
+
+fn union_widths(alloc: Global) -> Result<(usize, usize), AllocError> {
+    Ok(widths(&both(alloc, &[], &[])?))
+}
+
+#[test]
+fn each_operation_has_its_columns(rt: HostRuntime) -> Result<(), Fail> {
+    let alloc = rt.alloc();
+    assert_eq!(rt; product_widths(alloc)?, (3, 1));
+    assert_eq!(rt; sum_widths(alloc)?, (2, 1));
+    assert_eq!(rt; union_widths(alloc)?, (1, 2));
     Ok(())
 }
 
@@ -332,38 +420,68 @@ fn copy_of<T: Copied>(alloc: Global, value: &T) -> Result<T, AllocError> {
     value.copy(alloc)
 }
 
+fn copy_has(
+    alloc: Global,
+    cells: &[(&[u64], u64)],
+    want: &[(&[u64], &[u64])],
+) -> Result<bool, AllocError> {
+    let a = matrix(alloc, b'i', b'j', cells)?;
+    let copy = copy_of(alloc, &a)?;
+    has(alloc, &copy, want)
+}
+
 #[test]
 fn a_copy_has_the_same_entries(rt: HostRuntime) -> Result<(), Fail> {
     let alloc = rt.alloc();
-    let a = matrix(alloc, b'i', b'j', &[(&[2, 5], 10), (&[1, 6], 2)])?;
-    let copy = copy_of(alloc, &a)?;
-    let entries = copy.entries(alloc)?;
-    assert!(rt; are(entries.as_slice(), &[(&[1, 6], &[2]), (&[2, 5], &[10])]));
-    assert_eq!(rt; copy.ty().keys.len(), 2);
+    assert!(rt;
+        copy_has(
+            alloc,
+            &[(&[2, 5], 10), (&[1, 6], 2)],
+            &[(&[1, 6], &[2]), (&[2, 5], &[10])],
+        )?
+    );
     Ok(())
+}
+
+// Whether a table over i, j has these entries in the order j, i.
+fn turned_has(
+    alloc: Global,
+    cells: &[(&[u64], u64)],
+    want: &[(&[u64], &[u64])],
+) -> Result<bool, AllocError> {
+    let a = matrix(alloc, b'i', b'j', cells)?;
+    let mut order = List::new(alloc);
+    order.push(name(alloc, b'j')?)?;
+    order.push(name(alloc, b'i')?)?;
+    let entries = a.entries_by(alloc, &order)?;
+    Ok(are(entries.as_slice(), want))
 }
 
 #[test]
 fn entries_are_stored_in_the_order_of_the_columns(rt: HostRuntime) -> Result<(), Fail> {
     let alloc = rt.alloc();
-    let a = matrix(alloc, b'i', b'j', &[(&[2, 5], 10), (&[1, 6], 2)])?;
-    let mut order = List::new(alloc);
-    order.push(name(alloc, b'j')?)?;
-    order.push(name(alloc, b'i')?)?;
-    let entries = a.entries_by(alloc, &order)?;
-    assert!(rt; are(entries.as_slice(), &[(&[5, 2], &[10]), (&[6, 1], &[2])]));
+    assert!(rt;
+        turned_has(
+            alloc,
+            &[(&[2, 5], 10), (&[1, 6], 2)],
+            &[(&[5, 2], &[10]), (&[6, 1], &[2])],
+        )?
+    );
     Ok(())
+}
+
+fn in_range(alloc: Global, cells: &[(&[u64], u64)]) -> Result<bool, AllocError> {
+    let a = vector(alloc, b'v', cells)?;
+    Ok(a.is_in_range())
 }
 
 #[test]
 fn a_sum_past_the_range_is_out_of_range(rt: HostRuntime) -> Result<(), Fail> {
     let alloc = rt.alloc();
     let most = u64::MAX - 1;
-    let full = vector(alloc, b'v', &[(&[most], 1), (&[1], most - 1), (&[1], 1)])?;
-    assert!(rt; full.is_in_range());
-    let past = vector(alloc, b'v', &[(&[1], most), (&[1], 1)])?;
-    assert!(rt; !past.is_in_range());
-    let far = vector(alloc, b'v', &[(&[u64::MAX], 1)])?;
-    assert!(rt; !far.is_in_range());
+    assert!(rt; in_range(alloc, &[])?);
+    assert!(rt; in_range(alloc, &[(&[most], 1), (&[1], most - 1), (&[1], 1)])?);
+    assert!(rt; !in_range(alloc, &[(&[1], most), (&[1], 1)])?);
+    assert!(rt; !in_range(alloc, &[(&[u64::MAX], 1)])?);
     Ok(())
 }

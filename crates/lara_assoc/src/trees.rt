@@ -8,7 +8,7 @@ ghost use Rattle.lara_assoc.specs.Newest.{HasNewest};
 use crate::aggs::agg;
 use crate::assigned::Assigned;
 use crate::assoc::Assoc;
-use crate::joins::join;
+use crate::joins::{agg_of_join, join};
 use crate::named::{NamedTable, copy_named};
 use crate::unions::union;
 use lara_base::List;
@@ -42,6 +42,11 @@ pub fn table_of(
             union(alloc, &left, &right)
         }
         Op::Agg(a, keys) => {
+            if let Op::Join(left, right) = &a.get().op {
+                let left = table_of(alloc, plugins, db, tables, left.get())?;
+                let right = table_of(alloc, plugins, db, tables, right.get())?;
+                return agg_of_join(alloc, &left, &right, keys);
+            }
             let table = table_of(alloc, plugins, db, tables, a.get())?;
             agg(alloc, &table, keys)
         }

@@ -1,6 +1,7 @@
 use Rattle.std.proofs.Common.{arith, ap}
 use Rattle.lara_data.specs.declared.node.Node.{Node}
-use Rattle.lara_assoc.proofs.MeantFacts.{ok_is, load_means, name_means, literal_means, literal_has, join_left, join_right, join_means, join_are, union_left, union_right, union_means, union_are, agg_below, agg_means, agg_are, no_map, no_filter, no_promote, no_rename, no_apply}
+use Rattle.lara_assoc.proofs.MeantFacts.{load_means, name_means, literal_means, literal_has, join_left, join_right, join_means, join_are, union_left, union_right, union_means, union_are, agg_below, agg_means, agg_are, agg_join_means, agg_join_are, no_map, no_filter, no_promote, no_rename, no_apply}
+use Rattle.lara_assoc.proofs.TableFacts.{ok_is}
 use Rattle.lara_data.specs.TreeSizes.{nodes}
 use Rattle.lara_data.proofs.SizeEquations.{nodes_Join, nodes_Union, nodes_Agg}
 use Rattle.lara_assoc.proofs.trees.+table_of.Goals as goal
@@ -46,15 +47,54 @@ union-requires g t c =
     union_are _ _ c.requires.tables c.args.node.now c.in-Union.a c.in-Union.b _ _ c.in_ok-left-in-Union.left c.in_ok-right-in-Union.right c.in-Union.is c.get-in-Union.ensures c.get-in-Union-2.ensures c.requires.meant
     (c.in_ok-left-in-Union.ensures c.requires.tables c.requires.newest) (c.in_ok-right-in-Union.ensures c.requires.tables c.requires.newest)
 
+pub table_of-requires-in-Join-op : goal.table_of-requires-in-Join-op
+table_of-requires-in-Join-op g t c =
+    let below = agg_below _ _ c.requires.tables c.args.node.now c.in-Agg.a _ c.in-Agg.keys c.in-Agg.is c.get-in-Agg.ensures c.requires.meant in
+    let s = nodes_Agg c.in-Agg.a c.in-Agg.keys in
+    let e = ap nodes c.in-Agg.is in
+    let r = ap (λ (n : Node). nodes n.op) c.get-in-Agg.ensures in
+    let u = nodes_Join c.in-Join-op.left c.in-Join-op.right in
+    let f = ap nodes c.in-Join-op.is in
+    let v = ap (λ (n : Node). nodes n.op) c.get-in-Join-op.ensures in
+    (omega (arith, s, e, r, u, f, v), record { tables = c.requires.tables; newest = c.requires.newest; meant = join_left _ _ c.requires.tables _ c.in-Join-op.left c.in-Join-op.right _ c.in-Join-op.is c.get-in-Join-op.ensures below })
+
+pub table_of-requires-in-Join-op-2 : goal.table_of-requires-in-Join-op-2
+table_of-requires-in-Join-op-2 g t c =
+    let below = agg_below _ _ c.requires.tables c.args.node.now c.in-Agg.a _ c.in-Agg.keys c.in-Agg.is c.get-in-Agg.ensures c.requires.meant in
+    let s = nodes_Agg c.in-Agg.a c.in-Agg.keys in
+    let e = ap nodes c.in-Agg.is in
+    let r = ap (λ (n : Node). nodes n.op) c.get-in-Agg.ensures in
+    let u = nodes_Join c.in-Join-op.left c.in-Join-op.right in
+    let f = ap nodes c.in-Join-op.is in
+    let v = ap (λ (n : Node). nodes n.op) c.get-in-Join-op-2.ensures in
+    (omega (arith, s, e, r, u, f, v), record { tables = c.requires.tables; newest = c.requires.newest; meant = join_right _ _ c.requires.tables _ c.in-Join-op.left c.in-Join-op.right _ c.in-Join-op.is c.get-in-Join-op-2.ensures below })
+
+pub agg_of_join-requires-clause-joined : goal.agg_of_join-requires-clause-joined
+agg_of_join-requires-clause-joined g t c =
+    join_are _ _ c.requires.tables _ c.in-Join-op.left c.in-Join-op.right _ _ c.in_ok-left-in-Agg.left c.in_ok-right-in-Agg.right c.in-Join-op.is c.get-in-Join-op.ensures c.get-in-Join-op-2.ensures
+    (agg_below _ _ c.requires.tables c.args.node.now c.in-Agg.a _ c.in-Agg.keys c.in-Agg.is c.get-in-Agg.ensures c.requires.meant) (c.in_ok-left-in-Agg.ensures c.requires.tables c.requires.newest)
+    (c.in_ok-right-in-Agg.ensures c.requires.tables c.requires.newest)
+
+pub agg_of_join-requires-clause-summed : goal.agg_of_join-requires-clause-summed
+agg_of_join-requires-clause-summed g t c =
+    agg_join_are _ _ c.requires.tables c.args.node.now c.in-Agg.a _ c.in-Join-op.left c.in-Join-op.right _ _ c.in-Agg.keys c.in_ok-left-in-Agg.left c.in_ok-right-in-Agg.right c.in-Agg.is c.get-in-Agg.ensures
+    c.in-Join-op.is c.get-in-Join-op.ensures c.get-in-Join-op-2.ensures c.requires.meant (c.in_ok-left-in-Agg.ensures c.requires.tables c.requires.newest) (c.in_ok-right-in-Agg.ensures c.requires.tables c.requires.newest)
+
+pub returns-in-Join-op : goal.returns-in-Join-op
+returns-in-Join-op g t c =
+    λ ts newest. ok_is c.agg_of_join.result _ _
+    (agg_join_means _ _ ts c.args.node.now c.in-Agg.a _ c.in-Join-op.left c.in-Join-op.right _ _ c.in-Agg.keys c.in_ok-left-in-Agg.left c.in_ok-right-in-Agg.right c.in-Agg.is c.get-in-Agg.ensures c.in-Join-op.is
+    c.get-in-Join-op.ensures c.get-in-Join-op-2.ensures (c.in_ok-left-in-Agg.ensures ts newest) (c.in_ok-right-in-Agg.ensures ts newest)) c.agg_of_join.ensures
+
 pub table_of-requires-in-Agg : goal.table_of-requires-in-Agg
 table_of-requires-in-Agg g t c =
     let s = nodes_Agg c.in-Agg.a c.in-Agg.keys in
     let e = ap nodes c.in-Agg.is in
-    let r = ap (λ (n : Node). nodes n.op) c.get-in-Agg.ensures in
-    (omega (arith, s, e, r), record { tables = c.requires.tables; newest = c.requires.newest; meant = agg_below _ _ c.requires.tables c.args.node.now c.in-Agg.a _ c.in-Agg.keys c.in-Agg.is c.get-in-Agg.ensures c.requires.meant })
+    let r = ap (λ (n : Node). nodes n.op) c.get-in-Agg-2.ensures in
+    (omega (arith, s, e, r), record { tables = c.requires.tables; newest = c.requires.newest; meant = agg_below _ _ c.requires.tables c.args.node.now c.in-Agg.a _ c.in-Agg.keys c.in-Agg.is c.get-in-Agg-2.ensures c.requires.meant })
 
 pub agg-requires : goal.agg-requires
-agg-requires g t c = agg_are _ _ c.requires.tables c.args.node.now c.in-Agg.a _ c.in-Agg.keys c.in_ok-table-in-Agg.table c.in-Agg.is c.get-in-Agg.ensures c.requires.meant (c.in_ok-table-in-Agg.ensures c.requires.tables c.requires.newest)
+agg-requires g t c = agg_are _ _ c.requires.tables c.args.node.now c.in-Agg.a _ c.in-Agg.keys c.in_ok-table-in-Agg.table c.in-Agg.is c.get-in-Agg-2.ensures c.requires.meant (c.in_ok-table-in-Agg.ensures c.requires.tables c.requires.newest)
 
 pub returns-in-Load : goal.returns-in-Load
 returns-in-Load g t c = λ ts newest. ok_is c.copy_named.result _ _ (load_means _ _ ts c.args.node.now c.in-Load.name c.in-Load.is) c.copy_named.ensures
@@ -79,7 +119,7 @@ returns-in_ok-right-in-Union g t c =
 
 pub returns-in_ok-table-in-Agg : goal.returns-in_ok-table-in-Agg
 returns-in_ok-table-in-Agg g t c =
-    λ ts newest. ok_is c.agg.result _ _ (agg_means _ _ ts c.args.node.now c.in-Agg.a _ c.in-Agg.keys c.in_ok-table-in-Agg.table c.in-Agg.is c.get-in-Agg.ensures (c.in_ok-table-in-Agg.ensures ts newest)) c.agg.ensures
+    λ ts newest. ok_is c.agg.result _ _ (agg_means _ _ ts c.args.node.now c.in-Agg.a _ c.in-Agg.keys c.in_ok-table-in-Agg.table c.in-Agg.is c.get-in-Agg-2.ensures (c.in_ok-table-in-Agg.ensures ts newest)) c.agg.ensures
 
 pub returns-in-Map : goal.returns-in-Map
 returns-in-Map g t c = absurd (no_map _ _ _ c.args.node.now _ _ c.in-Map.is c.requires.meant)

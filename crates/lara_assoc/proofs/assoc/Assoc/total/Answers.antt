@@ -1,22 +1,27 @@
-use Rattle.std.proofs.Common.{sym, ◌∙◌, ap}
+use Rattle.std.proofs.Common.{sym, ap, ◌∙◌}
+use Rattle.lara_semiring.specs.Rows.{row_has}
+use Rattle.lara_data.specs.KeyedTypes.{item_has}
 use Rattle.lara_data.specs.TableTypes.{Columns, types}
-use Rattle.lara_data.specs.MapTables.{of_pairs}
-use Rattle.lara_data.specs.KeyedTables.{Row}
-use Rattle.lara_data.specs.Names.{Tuple}
-use Rattle.lara_data.specs.Tables.{Entries, table_of_permutation}
-use Rattle.std.specs.BTreeMap.{BTreeMap}
-use Rattle.lara_assoc.proofs.TableFacts.{table_is, held_typed}
+use Rattle.lara_data.specs.Tables.{table_of, table_of_permutation}
+use Rattle.lara_assoc.proofs.SumFacts.{own_step, own_end}
+use Rattle.lara_assoc.proofs.TableFacts.{ok_is}
 use Rattle.lara_assoc.proofs.assoc.Assoc.total.Goals as goal
 
--- the entries that a map holds
-abbrev of_map : BTreeMap Tuple Row → Entries
-of_map map = of_pairs map.entries
+pub add-requires : goal.add-requires
+add-requires c =
+    let here = rw c.as_slice-entry-items.ensures at c.entry-item.is in
+    let within = rw c.as_slice-entry-items.ensures at c.loop-entry-test.true in
+    (λ i. row_has (c.loop-entry.invariant.types i) (c.in_ok-copy-2.ensures.same i)) ∙ item_has (types c.args.ty.now.vals) c.args.entries.now c.loop-entry.entry-index c.entry-item.result c.requires within here
 
-pub invariant_of-result : goal.invariant_of-result
-invariant_of-result c = held_typed c.args.ty.now c.in_ok-copy.field-0 c.in_ok-tys.tys c.args.entries.now (of_pairs c.in_ok-new.field-0.value.entries) c.in_ok-copy.ensures (c.in_ok-tys.ensures.types ∙ ap (λ (t : Columns). types t.vals) c.ty.view_is) (ap of_map c.in_ok-new.ensures.ok ∙ c.in_ok-rows.ensures) c.requires
-
-pub returns-clause-table : goal.returns-clause-table
-returns-clause-table c = table_is c.args.ty.now c.in_ok-copy.field-0 c.in_ok-tys.tys c.args.entries.now (of_pairs c.in_ok-new.field-0.value.entries) c.in_ok-copy.ensures (c.in_ok-tys.ensures.types ∙ ap (λ (t : Columns). types t.vals) c.ty.view_is) (ap of_map c.in_ok-new.ensures.ok ∙ c.in_ok-rows.ensures)
+pub loop-entry-preserved : goal.loop-entry-preserved
+loop-entry-preserved c =
+    let here = rw c.as_slice-entry-items.ensures at c.entry-item.is in
+    let within = rw c.as_slice-entry-items.ensures at c.loop-entry-test.true in
+    own_step (types c.args.ty.now.vals) c.loop-entry.sums c.add.new.self c.args.entries.now c.loop-entry.entry-index c.entry-item.result (record { key = c.in_ok-copy.field-0; row = c.in_ok-copy-2.field-0 }) c.args.entries.now
+    within here (λ i. record { key = c.in_ok-copy.ensures.same i; row = c.in_ok-copy-2.ensures.same i }) c.in_ok-add.ensures.types c.in_ok-add.ensures.sums c.loop-entry.invariant
 
 pub returns-clause-any_order : goal.returns-clause-any_order
-returns-clause-any_order c others p = table_is c.args.ty.now c.in_ok-copy.field-0 c.in_ok-tys.tys c.args.entries.now (of_pairs c.in_ok-new.field-0.value.entries) c.in_ok-copy.ensures (c.in_ok-tys.ensures.types ∙ ap (λ (t : Columns). types t.vals) c.ty.view_is) (ap of_map c.in_ok-new.ensures.ok ∙ c.in_ok-rows.ensures) ∙ sym (table_of_permutation c.args.ty.now others c.args.entries.now p)
+returns-clause-any_order c = λ others p.
+    let past = rw c.as_slice-entry-items.ensures at c.loop-entry-test.false in
+    let same = own_end (types c.args.ty.now.vals) c.loop-entry.sums c.args.entries.now c.loop-entry.entry-index c.args.entries.now past c.loop-entry.invariant in
+    ok_is c.of_sums.result _ _ (ap (λ (t : Columns). table_of t c.args.entries.now) c.in_ok-copy-3.ensures ∙ sym (table_of_permutation c.args.ty.now others c.args.entries.now p)) (c.of_sums.ensures c.args.entries.now same)
