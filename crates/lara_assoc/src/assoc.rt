@@ -4,7 +4,8 @@ ghost use Rattle.std.specs.List.Sorted.{IsPermutation};
 ghost use Rattle.lara_key.specs.Keys.{tuple_cmp};
 ghost use Rattle.lara_data.specs.KeyedTables.{all_have, SameAt};
 ghost use Rattle.lara_data.specs.MapTables.{of_pairs};
-ghost use Rattle.lara_data.specs.Tables.{Entries, table_of, recut, stored, is_in_range};
+ghost use Rattle.lara_data.specs.Tables.{Entries, table_of, recut, is_in_range};
+ghost use Rattle.lara_data.specs.Algebra.{ordered};
 ghost use Rattle.lara_data.specs.TableTypes.{types, key_names};
 
 use crate::keys::{picked, places};
@@ -119,9 +120,9 @@ impl Assoc {
     }
 
     /// The entries with their key columns in the given order, rising.
-    #[tactic(auto, unfolding(lara_data::specs::Tables::stored))]
+    #[tactic(auto, unfolding(lara_data::specs::Algebra::ordered))]
     pub fn entries_by(&self, alloc: Global, order: &List<Name>) -> Result<List<Entry>, AllocError>
-        ensures { IfOk result (λ es. es ≡ stored self.now order.now) }
+        ensures { IfOk result (λ es. es ≡ ordered self.now order.now) }
     {
         self.recut(alloc, order)?.into_entries(alloc)
     }
