@@ -1,5 +1,6 @@
 -- What a call has to answer: a text, or the first stop. It is a function of the plugins, the words and the input alone.
 use Rattle.std.specs.Prelude.{ℕ, List, [], Option, Some, None, Result, Ok, Err}
+use Rattle.lara_data.specs.declared.script.Statement.{Statement}
 use Rattle.lara_data.specs.Denotations.{Printed, denotation}
 use Rattle.lara_data.specs.Plugins.{Plugins}
 use Rattle.lara_types.specs.Checks.{checked}
@@ -27,11 +28,16 @@ prints_text prints = do
   ranged ← in_range prints
   Ok (texts ranged)
 
--- the ruling on the bytes of a script: its tree, its types over no stored tables, the text of what it prints over them
+-- the typed script of the bytes, over no stored tables: that of their tree
+abbrev pub statements_of : List ℕ → Result (List Statement) Stop
+statements_of bytes = do
+  tree ← tree_of bytes
+  at_step at_types (checked [] tree)
+
+-- the ruling on the bytes of a script: the text of what its typed script prints over no stored tables
 unfoldable pub script_ruling : Plugins → List ℕ → Result (List ℕ) Stop
 script_ruling ps bytes = do
-  tree ← tree_of bytes
-  statements ← at_step at_types (checked [] tree)
+  statements ← statements_of bytes
   prints_text (denotation ps [] statements).prints
 
 -- the ruling on an input, which is a script within the limit

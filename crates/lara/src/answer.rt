@@ -6,7 +6,7 @@ ghost use Rattle.lara_data.specs.Denotations.{denotation};
 ghost use Rattle.lara_types.specs.Checks.{checked};
 ghost use Rattle.lara.specs.Stops.{at_types};
 ghost use Rattle.lara.specs.ScriptBytes.{tree_of, at_step, outcome_of_fault};
-ghost use Rattle.lara.specs.Ruling.{script_ruling};
+ghost use Rattle.lara.specs.Ruling.{statements_of, script_ruling};
 ghost use Rattle.lara.specs.Endings.{Gives, StopsScript, no_fault};
 ghost use Rattle.lara.specs.declared.outcome.Outcome.TheVariants.{Memory};
 
@@ -52,6 +52,22 @@ fn read_types(alloc: Global, tree: &Ast, plugins: &Vec<Box<dyn Plugin>>) -> Resu
     check(alloc, tree, &List::new(alloc), plugins).map_err(unread)
 }
 
+// The typed script of the bytes. Its tree, which is larger, is let go here, before the script is run.
+fn read_statements(
+    alloc: Global,
+    script: &[u8],
+    plugins: &Vec<Box<dyn Plugin>>,
+) -> Result<Script, Outcome>
+    requires { length script.now ≤ 1048576 }
+    ensures gives { Gives (λ statements. statements) no_fault (statements_of script.now) result }
+    ensures few { IfOk result (λ statements. length statements ≤ 256) }
+    ensures fits { IfOk result (ScriptFits (handed ⟦<dyn Plugin as Plugin>⟧ plugins.now.items) []) }
+    ensures stops { IfErr result StopsScript }
+{
+    let tree = read_tree(alloc, script)?;
+    read_types(alloc, &tree, plugins)
+}
+
 // What a typed script prints and stores, over no stored tables.
 fn plain_answers(
     alloc: Global,
@@ -77,8 +93,7 @@ pub fn answer(
     ensures gives { Gives (λ text. text) no_fault (script_ruling (handed ⟦<dyn Plugin as Plugin>⟧ plugins.now.items) script.now) result }
     ensures stops { IfErr result StopsScript }
 {
-    let tree = read_tree(alloc, script)?;
-    let script = read_types(alloc, &tree, plugins)?;
+    let script = read_statements(alloc, script, plugins)?;
     let answers = plain_answers(alloc, &script, plugins)?;
     prints_text(alloc, &answers.prints)
 }
