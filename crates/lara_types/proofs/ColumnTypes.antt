@@ -15,12 +15,12 @@ use Rattle.lara_syntax.specs.declared.ast.AstValCol.{AstValCol}
 use Rattle.lara_base.specs.Results.{◌>>=◌, bind_same}
 use Rattle.lara_types.specs.Answered.{answered, ok_is}
 use Rattle.lara_types.specs.LiteralTypes.{one_more_name, one_more_val, distinct_names}
-use Rattle.lara_types.specs.NodeRules.{once_rules, column_names, column_rules}
+use Rattle.lara_types.specs.NodeRules.{once_rules, column_rules}
 use Rattle.lara_types.specs.RuleLaws.{first_here, first_behind, rules_refuse}
 use Rattle.lara_types.specs.Rules.{first_broken, unless, by_rules, rule}
 use Rattle.lara_types.specs.WalkLaws.{walk-append}
 use Rattle.lara_types.specs.Walks.{walk}
-use Rattle.lara_types.specs.Written.{key_col, val_col, columns}
+use Rattle.lara_types.specs.Written.{names_of, key_col, val_col, columns}
 
 -- ---- names
 
@@ -30,18 +30,12 @@ unfolding walk
 walk-map step f s [] = refl
 walk-map step f s (x ∷ xs) = bind_same (step s (f x)) (λ t. walk (λ u y. step u (f y)) t xs) (λ t. walk step t (map f xs)) (λ t. walk-map step f t xs)
 
-abbrev key_named : AstKeyCol → AstName
-key_named c = c.name
-
-abbrev val_named : AstValCol → AstName
-val_named c = c.name
-
-one_walk : (keys : List AstKeyCol) (vals : List AstValCol) → distinct_names keys vals ≡ walk one_more_name [] (map key_named keys ++ map val_named vals)
+one_walk : (keys : List AstKeyCol) (vals : List AstValCol) → distinct_names keys vals ≡ walk one_more_name [] (names_of keys vals)
 unfolding distinct_names
 one_walk keys vals =
-    (λ i. walk-map one_more_name key_named [] keys i >>= λ names. walk one_more_val names vals)
-    ∙ bind_same (walk one_more_name [] (map key_named keys)) (λ names. walk one_more_val names vals) (λ names. walk one_more_name names (map val_named vals)) (λ names. walk-map one_more_name val_named names vals)
-    ∙ sym (walk-append one_more_name [] (map key_named keys) (map val_named vals))
+    (λ i. walk-map one_more_name (λ (c : AstKeyCol). c.name) [] keys i >>= λ names. walk one_more_val names vals)
+    ∙ bind_same (walk one_more_name [] (map (λ (c : AstKeyCol). c.name) keys)) (λ names. walk one_more_val names vals) (λ names. walk one_more_name names (map (λ (c : AstValCol). c.name) vals)) (λ names. walk-map one_more_name (λ (c : AstValCol). c.name) names vals)
+    ∙ sym (walk-append one_more_name [] (map (λ (c : AstKeyCol). c.name) keys) (map (λ (c : AstValCol). c.name) vals))
 
 -- what a judgement refuses
 abbrev refusal_of : {A : Type 0} → Judged A → Option Refusal
@@ -57,8 +51,8 @@ names_judged seen (n ∷ ns) =
       | false ↦ names_judged (seen ++ n.name ∷ []) ns
     ]
 
-all_names : (ty : AstType) → first_broken (once_rules [] (column_names ty)) ≡ refusal_of (distinct_names ty.keys ty.vals)
-all_names ty = sym (ap refusal_of (one_walk ty.keys ty.vals) ∙ names_judged [] (column_names ty))
+all_names : (ty : AstType) → first_broken (once_rules [] (names_of ty.keys ty.vals)) ≡ refusal_of (distinct_names ty.keys ty.vals)
+all_names ty = sym (ap refusal_of (one_walk ty.keys ty.vals) ∙ names_judged [] (names_of ty.keys ty.vals))
 
 -- ---- columns
 
@@ -82,12 +76,12 @@ module _ (at : ℕ) (ty : AstType) (of_keys : List AstKeyCol) (of_vals : List As
 
   -- a name that stood before
   pub columns_stop : (r : Refusal) → distinct_names of_keys of_vals ≡ Err r → by_rules (column_rules at ty) (columns ty) ≡ Err r
-  columns_stop r e = rules_refuse (column_rules at ty) (columns ty) r (first_here (once_rules [] (column_names ty)) _ r (all_names ty ∙ ap refusal_of (names_are ∙ e)))
+  columns_stop r e = rules_refuse (column_rules at ty) (columns ty) r (first_here (once_rules [] (names_of ty.keys ty.vals)) _ r (all_names ty ∙ ap refusal_of (names_are ∙ e)))
 
   module _ (ns : List Name) (names : distinct_names of_keys of_vals ≡ Ok ns) (keys : List KeyCol) (vals : List ValCol) (made_keys : answered (map key_col of_keys) ≡ Ok keys) (made_vals : answered (map val_col of_vals) ≡ Ok vals) where
     -- names that differ
     of_columns : first_broken (column_rules at ty) ≡ cond (are_columns (map key_col ty.keys) (map val_col ty.vals)) None (Some (record { at = at; kind = TooManyColumns }))
-    of_columns = first_behind (once_rules [] (column_names ty)) _ (all_names ty ∙ ap refusal_of (names_are ∙ names)) ∙ last_rule at (map key_col ty.keys) (map val_col ty.vals)
+    of_columns = first_behind (once_rules [] (names_of ty.keys ty.vals)) _ (all_names ty ∙ ap refusal_of (names_are ∙ names)) ∙ last_rule at (map key_col ty.keys) (map val_col ty.vals)
 
     keys_are : map key_col ty.keys ≡ keys
     keys_are = ap (map key_col) (sym k) ∙ ok_is (map key_col of_keys) keys made_keys

@@ -33,10 +33,10 @@ use Rattle.lara_types.specs.HasTypes.{IsKey, IsVal, AreKeys, AreVals, AreEntries
 use Rattle.lara_types.specs.LiteralValues.{key_value, row_value, key_values, row_values, entry_value}
 use Rattle.lara_types.specs.Literals.{is_key_lit, is_val_lit, is_in_range}
 use Rattle.lara_types.specs.NodeRuleLaws.{once_meets}
-use Rattle.lara_types.specs.NodeRules.{once_rules, key_kind_rules, val_kind_rules, range_rules, entry_rules, entries_rules, column_names, column_rules, literal_rules}
+use Rattle.lara_types.specs.NodeRules.{once_rules, key_kind_rules, val_kind_rules, range_rules, entry_rules, entries_rules, column_rules, literal_rules}
 use Rattle.lara_types.specs.RuleLaws.{met_parts, met_from, first_met, rest_met, met_cons, met_end, rules_met, rules_answer}
 use Rattle.lara_types.specs.Rules.{AllMet}
-use Rattle.lara_types.specs.Written.{plain, key_col, val_col, columns}
+use Rattle.lara_types.specs.Written.{plain, names_of, key_col, val_col, columns}
 
 -- ---- values
 
@@ -144,17 +144,7 @@ entries_meet ty (x ∷ xs) (e ∷ es) h =
 
 -- ---- columns
 
-abbrev key_named : AstKeyCol → AstName
-key_named c = c.name
-
-abbrev val_named : AstValCol → AstName
-val_named c = c.name
-
--- keys first
-abbrev all_named : List AstKeyCol → List AstValCol → List AstName
-all_named keys vals = map key_named keys ++ map val_named vals
-
-has_all : (keys : List AstKeyCol) (vals : List AstValCol) (n : Name) → has (plain (all_named keys vals)) n ≡ (has_key n (map key_col keys) || has_val n (map val_col vals))
+has_all : (keys : List AstKeyCol) (vals : List AstValCol) (n : Name) → has (plain (names_of keys vals)) n ≡ (has_key n (map key_col keys) || has_val n (map val_col vals))
 unfolding has
 has_all [] [] n = refl
 has_all [] (v ∷ vals) n = λ i. turned_name v.name.name n i || has_all [] vals n i
@@ -163,21 +153,21 @@ has_all (k ∷ keys) vals n =
     ∙ sym (or_assoc (bytes_eq k.name.name n) (has_key n (map key_col keys)) (has_val n (map val_col vals)))
 
 -- where no two columns have one name, no name stands twice
-distinct_all : (keys : List AstKeyCol) (vals : List AstValCol) → are_distinct (map key_col keys) (map val_col vals) ≡ true → distinct (plain (all_named keys vals)) ≡ true
+distinct_all : (keys : List AstKeyCol) (vals : List AstValCol) → are_distinct (map key_col keys) (map val_col vals) ≡ true → distinct (plain (names_of keys vals)) ≡ true
 unfolding distinct
 distinct_all [] [] d = refl
 distinct_all [] (v ∷ vals) d =
     let parts = and_parts (not (has_val v.name.name (map val_col vals))) (are_vals_distinct (map val_col vals)) d in
-    and_from (not (has (plain (all_named [] vals)) v.name.name)) (distinct (plain (all_named [] vals))) (ap not (has_all [] vals v.name.name) ∙ parts.0) (distinct_all [] vals parts.1)
+    and_from (not (has (plain (names_of [] vals)) v.name.name)) (distinct (plain (names_of [] vals))) (ap not (has_all [] vals v.name.name) ∙ parts.0) (distinct_all [] vals parts.1)
 distinct_all (k ∷ keys) vals d =
     let n = k.name.name in
     let parts = and_parts (not (has_key n (map key_col keys)) && not (has_val n (map val_col vals))) (are_distinct (map key_col keys) (map val_col vals)) d in
     let fresh = and_parts (not (has_key n (map key_col keys))) (not (has_val n (map val_col vals))) parts.0 in
     let none : not (has_key n (map key_col keys) || has_val n (map val_col vals)) ≡ true = λ i. not (not_true (has_key n (map key_col keys)) fresh.0 i || not_true (has_val n (map val_col vals)) fresh.1 i) in
-    and_from (not (has (plain (all_named keys vals)) n)) (distinct (plain (all_named keys vals))) (ap not (has_all keys vals n) ∙ none) (distinct_all keys vals parts.1)
+    and_from (not (has (plain (names_of keys vals)) n)) (distinct (plain (names_of keys vals))) (ap not (has_all keys vals n) ∙ none) (distinct_all keys vals parts.1)
 
 columns_met : (at : ℕ) (ty : AstType) → AllMet (column_rules at ty) → are_columns (columns ty).keys (columns ty).vals ≡ true
-columns_met at ty m = first_met _ _ ((met_parts (once_rules [] (column_names ty)) _ m).1)
+columns_met at ty m = first_met _ _ ((met_parts (once_rules [] (names_of ty.keys ty.vals)) _ m).1)
 
 columns_meet : (at : ℕ) (ty : AstType) → are_columns (columns ty).keys (columns ty).vals ≡ true → AllMet (column_rules at ty)
 unfolding are_columns
@@ -185,7 +175,7 @@ columns_meet at ty h =
     let keys = map key_col ty.keys in
     let vals = map val_col ty.vals in
     let apart = (and_parts _ (are_distinct keys vals) h).1 in
-    met_from (once_rules [] (column_names ty)) _ (once_meets [] (column_names ty) (distinct_all ty.keys ty.vals apart)) (met_cons _ _ h met_end)
+    met_from (once_rules [] (names_of ty.keys ty.vals)) _ (once_meets [] (names_of ty.keys ty.vals) (distinct_all ty.keys ty.vals apart)) (met_cons _ _ h met_end)
 
 -- ---- literals
 

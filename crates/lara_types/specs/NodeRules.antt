@@ -1,5 +1,5 @@
 -- The rules of each node of a tree and of each statement, in their order.
-use Rattle.std.specs.Prelude.{ℕ, Bool, true, false, not, List, [], ◌∷◌, ◌++◌, map, Option, Some, None}
+use Rattle.std.specs.Prelude.{ℕ, Bool, true, false, not, List, [], ◌∷◌, ◌++◌, Option, Some, None}
 use Rattle.lara_data.specs.declared.refusal.Kind.{Kind}
 use Rattle.lara_data.specs.declared.refusal.Kind.TheVariants.{Unexpected, NoTable, NoName, NotAnOrder, NameTwice, TooManyColumns, TypesDiffer, NotInRange, NoCommonValue, NotAKey}
 use Rattle.lara_data.specs.declared.schema.Schema.{Schema}
@@ -13,16 +13,14 @@ use Rattle.lara_data.specs.TypedScripts.{is_order}
 use Rattle.lara_data.specs.TypedTrees.{type_named}
 use Rattle.lara_syntax.specs.declared.ast.AstBy.{AstBy}
 use Rattle.lara_syntax.specs.declared.ast.AstEntry.{AstEntry}
-use Rattle.lara_syntax.specs.declared.ast.AstKeyCol.{AstKeyCol}
 use Rattle.lara_syntax.specs.declared.ast.AstLit.{AstLit}
 use Rattle.lara_syntax.specs.declared.ast.AstName.{AstName}
 use Rattle.lara_syntax.specs.declared.ast.AstOp.{AstOp}
 use Rattle.lara_syntax.specs.declared.ast.AstOp.TheVariants.{Load, Named, Literal, Join', Union', Agg'}
 use Rattle.lara_syntax.specs.declared.ast.AstType.{AstType}
-use Rattle.lara_syntax.specs.declared.ast.AstValCol.{AstValCol}
 use Rattle.lara_types.specs.Literals.{is_key_lit, is_val_lit, is_in_range, is_whole}
 use Rattle.lara_types.specs.Rules.{Rule, rule}
-use Rattle.lara_types.specs.Written.{plain, columns}
+use Rattle.lara_types.specs.Written.{plain, names_of, columns}
 
 -- ---- names
 
@@ -89,14 +87,10 @@ unfoldable pub entries_rules : Columns → List AstEntry → List Rule
 entries_rules ty [] = []
 entries_rules ty (e ∷ es) = entry_rules ty e ++ entries_rules ty es
 
--- the names of all columns, keys first
-abbrev pub column_names : AstType → List AstName
-column_names ty = map (λ (c : AstKeyCol). c.name) ty.keys ++ map (λ (c : AstValCol). c.name) ty.vals
-
 -- The columns of a literal: all names differ, then they are a table's. Where the names differ and there is a value column,
 -- as the grammar has it, they are none only where they are too many.
 abbrev pub column_rules : ℕ → AstType → List Rule
-column_rules at ty = once_rules [] (column_names ty) ++ (rule at TooManyColumns (are_columns (columns ty).keys (columns ty).vals) ∷ [])
+column_rules at ty = once_rules [] (names_of ty.keys ty.vals) ++ (rule at TooManyColumns (are_columns (columns ty).keys (columns ty).vals) ∷ [])
 
 -- a literal: its columns, then its entries
 abbrev pub literal_rules : ℕ → AstType → List AstEntry → List Rule

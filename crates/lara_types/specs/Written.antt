@@ -1,5 +1,5 @@
 -- What a tree with places says, without its places.
-use Rattle.std.specs.Prelude.{List, map}
+use Rattle.std.specs.Prelude.{List, ◌++◌, map}
 use Rattle.lara_syntax.specs.declared.ast.AstKeyCol.{AstKeyCol}
 use Rattle.lara_syntax.specs.declared.ast.AstName.{AstName}
 use Rattle.lara_syntax.specs.declared.ast.AstType.{AstType}
@@ -12,6 +12,10 @@ use Rattle.lara_data.specs.TableTypes.{Columns}
 -- the names
 abbrev pub plain : List AstName → List Name
 plain ns = map (λ n. n.name) ns
+
+-- the names of columns at their places, keys first
+abbrev pub names_of : List AstKeyCol → List AstValCol → List AstName
+names_of keys vals = map (λ (c : AstKeyCol). c.name) keys ++ map (λ (c : AstValCol). c.name) vals
 
 -- a key column
 abbrev pub key_col : AstKeyCol → KeyCol

@@ -100,6 +100,29 @@ fn scripts_are_refused_at_the_word(rt: HostRuntime) {
     );
 }
 
+// An agg that breaks both of its rules, one that breaks the second, and a join of two unknown names.
+#[test]
+fn the_first_broken_rule_is_the_refusal(rt: HostRuntime) {
+    let alloc = rt.alloc();
+    assert!(rt;
+        is_refused(
+            alloc,
+            b"A=table[i:nat:v:count]{};B=agg A by i,i,z;",
+            40,
+            Kind::NotAKey
+        )
+    );
+    assert!(rt;
+        is_refused(
+            alloc,
+            b"A=table[i:nat:v:count]{};B=agg A by i,i;",
+            38,
+            Kind::NameTwice
+        )
+    );
+    assert!(rt; is_refused(alloc, b"A=join U V;", 7, Kind::NoName));
+}
+
 #[test]
 fn operators_have_types(rt: HostRuntime) {
     let alloc = rt.alloc();
