@@ -1,11 +1,16 @@
-//! Copies of tokens, and of those parts of a tree that no rule of the grammar makes yet, each by the bound alone.
+//! Copies of tokens, and of those parts of a tree that no rule of the grammar makes yet, each by the bound alone. A copy is
+//! compared with the text that shows it.
 ghost use Rattle.std.specs.Prelude.{◌<◌, length, IfOk};
 
 use crate::ast::{
-    AstKeyCol, AstLit, AstName, AstNode, AstOp, AstStatement, AstType, AstValCol, AstValue,
+    AstEntry, AstKeyCol, AstLit, AstName, AstNode, AstOp, AstStatement, AstType, AstValCol,
+    AstValue,
 };
 use crate::ast_expr::{AstExpr, AstForm};
 use crate::ast_part::{AstArg, AstCall, AstDef, AstKeyDef, AstPair};
+use crate::tests_grammar::{behind_lit, behind_name, behind_names, behind_node, behind_statement};
+use crate::tests_shown::{behind, behind_number, behind_place, copy_of, is_end};
+use crate::tests_tokens::{are_shown, behind_word};
 use crate::token::{Token, TokenList, TokenWord};
 use lara_base::{Boxed, Content, Copied, List, Name};
 use lara_data::{FunOp, Kind, Refusal, TwoOp};
@@ -14,17 +19,9 @@ use lara_semiring::ValType;
 use std::alloc::{AllocError, Global};
 use std::test::Fail;
 
-// Whether `is` holds of the copy of what was made. Trees are let go here and in `both` and `one` alone: how a tree is let go is
-// long to prove, and these are proved once, for each type.
-fn copies<T: Copied + Drop, F: FnOnce(&T) -> bool>(
-    alloc: Global,
-    made: Result<T, AllocError>,
-    is: F,
-) -> Result<bool, AllocError>
-    requires { F.IsAlwaysCallable is }
-{
-    let copy = made?.copy(alloc)?;
-    Ok(is(&copy))
+// What a copy of it is; each type is copied through the bound.
+fn copied<T: Copied + Drop>(alloc: Global, made: Result<T, AllocError>) -> Result<T, AllocError> {
+    copy_of(alloc, &made?)
 }
 
 fn both<A: Drop, B: Drop>(
@@ -59,13 +56,7 @@ fn placed(alloc: Global, letter: u8) -> Result<AstName, AllocError> {
     })
 }
 
-fn is_placed(name: &AstName, letter: u8) -> bool {
-    name.at == 7 && name.name.bytes().get(0) == Some(&letter)
-}
-
-fn is_t(text: &Content) -> bool {
-    text.bytes().get(0) == Some(&b't')
-}
+// ---- expressions
 
 fn number(n: u64) -> AstExpr {
     AstExpr {
@@ -78,58 +69,12 @@ fn boxed(alloc: Global, n: u64) -> Result<Boxed<AstExpr>, AllocError> {
     Ok(Boxed::new(alloc, number(n))?)
 }
 
-fn is_number(e: &AstExpr, n: u64) -> bool {
-    match &e.form {
-        AstForm::Number(m) => e.at == 4 && *m == n,
-        _ => false,
-    }
-}
-
-fn is_five(e: &AstExpr) -> bool {
-    is_number(e, 5)
-}
-
 fn column(alloc: Global) -> Result<AstForm, AllocError> {
     Ok(AstForm::Column(name(alloc, b'c')?))
 }
 
-fn is_column(form: &AstForm) -> bool {
-    match form {
-        AstForm::Column(c) => c.bytes().get(0) == Some(&b'c'),
-        _ => false,
-    }
-}
-
 fn text_form(alloc: Global) -> Result<AstForm, AllocError> {
     Ok(AstForm::Text(text(alloc, b't')?))
-}
-
-fn is_text_form(form: &AstForm) -> bool {
-    match form {
-        AstForm::Text(t) => is_t(t),
-        _ => false,
-    }
-}
-
-fn is_true_form(form: &AstForm) -> bool {
-    match form {
-        AstForm::Flag(flag) => *flag,
-        _ => false,
-    }
-}
-
-fn is_inf_form(form: &AstForm) -> bool {
-    match form {
-        AstForm::Inf => true,
-        _ => false,
-    }
-}
-
-fn is_none_form(form: &AstForm) -> bool {
-    match form {
-        AstForm::None => true,
-        _ => false,
-    }
 }
 
 fn sum(alloc: Global) -> Result<AstForm, AllocError> {
@@ -137,22 +82,8 @@ fn sum(alloc: Global) -> Result<AstForm, AllocError> {
     Ok(AstForm::Two(TwoOp::Add, a, b))
 }
 
-fn is_sum(form: &AstForm) -> bool {
-    match form {
-        AstForm::Two(TwoOp::Add, a, b) => is_number(a.get(), 2) && is_number(b.get(), 3),
-        _ => false,
-    }
-}
-
 fn negation(alloc: Global) -> Result<AstForm, AllocError> {
     Ok(AstForm::Not(boxed(alloc, 2)?))
-}
-
-fn is_negation(form: &AstForm) -> bool {
-    match form {
-        AstForm::Not(a) => is_number(a.get(), 2),
-        _ => false,
-    }
 }
 
 fn choice(alloc: Global) -> Result<AstForm, AllocError> {
@@ -161,41 +92,68 @@ fn choice(alloc: Global) -> Result<AstForm, AllocError> {
     Ok(AstForm::If(test, a, b))
 }
 
-fn is_choice(form: &AstForm) -> bool {
-    match form {
-        AstForm::If(test, a, b) => {
-            is_number(test.get(), 2) && is_number(a.get(), 3) && is_number(b.get(), 4)
-        }
-        _ => false,
-    }
-}
-
 fn fun(alloc: Global) -> Result<AstForm, AllocError> {
     Ok(AstForm::Fun(FunOp::Num, boxed(alloc, 2)?))
 }
 
-fn is_fun(form: &AstForm) -> bool {
-    match form {
-        AstForm::Fun(FunOp::Num, a) => is_number(a.get(), 2),
-        _ => false,
+// What is left behind an expression: its place, its word and what follows, each operand likewise.
+fn behind_expr<'a>(want: &'a [u8], expr: &AstExpr) -> Option<&'a [u8]> {
+    let rest = behind_place(want, expr.at)?;
+    match &expr.form {
+        AstForm::Column(name) => behind(behind(rest, name.bytes().as_slice())?, b" "),
+        AstForm::Number(n) => behind(behind_number(rest, *n)?, b" "),
+        AstForm::Text(text) => behind(behind(rest, text.bytes().as_slice())?, b"! "),
+        AstForm::Flag(true) => behind(rest, b"true "),
+        AstForm::Flag(false) => behind(rest, b"false "),
+        AstForm::Inf => behind(rest, b"inf "),
+        AstForm::None => behind(rest, b"none "),
+        AstForm::Two(TwoOp::Add, a, b) => {
+            behind_expr(behind_expr(behind(rest, b"+ ")?, a.get())?, b.get())
+        }
+        AstForm::Not(a) => behind_expr(behind(rest, b"not ")?, a.get()),
+        AstForm::If(test, a, b) => {
+            let rest = behind_expr(behind(rest, b"if ")?, test.get())?;
+            behind_expr(behind_expr(rest, a.get())?, b.get())
+        }
+        AstForm::Fun(FunOp::Num, a) => behind_expr(behind(rest, b"num ")?, a.get()),
+        _ => None,
     }
 }
 
+// Whether the text shows the copy of an expression of this form at the place 4.
+fn is_copied_as(
+    alloc: Global,
+    form: Result<AstForm, AllocError>,
+    want: &[u8],
+) -> Result<bool, AllocError> {
+    let expr = AstExpr { at: 4, form: form? };
+    let copy = copy_of(alloc, &expr)?;
+    Ok(is_end(behind_expr(want, &copy)))
+}
+
 #[test]
-fn expressions_are_copied(rt: HostRuntime) -> Result<(), Fail> {
+fn leaves_of_expressions_are_copied(rt: HostRuntime) -> Result<(), Fail> {
     let alloc = rt.alloc();
-    assert!(rt; copies(alloc, Ok(number(5)), is_five)?);
-    assert!(rt; copies(alloc, column(alloc), is_column)?);
-    assert!(rt; copies(alloc, text_form(alloc), is_text_form)?);
-    assert!(rt; copies(alloc, Ok(AstForm::Flag(true)), is_true_form)?);
-    assert!(rt; copies(alloc, Ok(AstForm::Inf), is_inf_form)?);
-    assert!(rt; copies(alloc, Ok(AstForm::None), is_none_form)?);
-    assert!(rt; copies(alloc, sum(alloc), is_sum)?);
-    assert!(rt; copies(alloc, negation(alloc), is_negation)?);
-    assert!(rt; copies(alloc, choice(alloc), is_choice)?);
-    assert!(rt; copies(alloc, fun(alloc), is_fun)?);
+    assert!(rt; is_copied_as(alloc, Ok(AstForm::Number(5)), b"4 5 ")?);
+    assert!(rt; is_copied_as(alloc, column(alloc), b"4 c ")?);
+    assert!(rt; is_copied_as(alloc, text_form(alloc), b"4 t! ")?);
+    assert!(rt; is_copied_as(alloc, Ok(AstForm::Flag(true)), b"4 true ")?);
+    assert!(rt; is_copied_as(alloc, Ok(AstForm::Inf), b"4 inf ")?);
+    assert!(rt; is_copied_as(alloc, Ok(AstForm::None), b"4 none ")?);
     Ok(())
 }
+
+#[test]
+fn operators_of_expressions_are_copied(rt: HostRuntime) -> Result<(), Fail> {
+    let alloc = rt.alloc();
+    assert!(rt; is_copied_as(alloc, sum(alloc), b"4 + 4 2 4 3 ")?);
+    assert!(rt; is_copied_as(alloc, negation(alloc), b"4 not 4 2 ")?);
+    assert!(rt; is_copied_as(alloc, choice(alloc), b"4 if 4 2 4 3 4 4 ")?);
+    assert!(rt; is_copied_as(alloc, fun(alloc), b"4 num 4 2 ")?);
+    Ok(())
+}
+
+// ---- tables
 
 fn key_col(alloc: Global) -> Result<AstKeyCol, AllocError> {
     Ok(AstKeyCol {
@@ -217,9 +175,35 @@ fn columns(alloc: Global) -> Result<AstType, AllocError> {
     Ok(AstType { keys, vals })
 }
 
-fn are_columns(ty: &AstType) -> bool {
-    ty.keys.get(0).is_some_and(|k| is_placed(&k.name, b'k'))
-        && ty.vals.get(0).is_some_and(|v| is_placed(&v.name, b'v'))
+fn text_value(alloc: Global) -> Result<AstValue, AllocError> {
+    Ok(AstValue::Text(text(alloc, b't')?))
+}
+
+// The literal of a copied value at the place 7.
+fn lit(alloc: Global, value: Result<AstValue, AllocError>) -> Result<AstLit, AllocError> {
+    Ok(AstLit {
+        at: 7,
+        value: copied(alloc, value)?,
+    })
+}
+
+// A key that is a text, and one value.
+fn entry(alloc: Global, value: AstValue) -> Result<AstEntry, AllocError> {
+    let key = lit(alloc, text_value(alloc));
+    let (key, row) = both(one(alloc, key), one(alloc, lit(alloc, Ok(value))))?;
+    Ok(AstEntry { at: 7, key, row })
+}
+
+fn literal_op(alloc: Global, value: AstValue) -> Result<AstOp, AllocError> {
+    let entries = one(alloc, entry(alloc, value));
+    let (ty, entries) = both(copied(alloc, columns(alloc)), entries)?;
+    Ok(AstOp::Literal(ty, entries))
+}
+
+// The table of a name at the place 7.
+fn named(alloc: Global) -> Result<Boxed<AstNode>, AllocError> {
+    let op = AstOp::Named(placed(alloc, b'T')?);
+    Ok(Boxed::new(alloc, AstNode { at: 7, op })?)
 }
 
 fn def(alloc: Global) -> Result<AstDef, AllocError> {
@@ -229,10 +213,6 @@ fn def(alloc: Global) -> Result<AstDef, AllocError> {
     })
 }
 
-fn is_def(def: &AstDef) -> bool {
-    is_placed(&def.col.name, b'v') && is_number(&def.expr, 5)
-}
-
 fn key_def(alloc: Global) -> Result<AstKeyDef, AllocError> {
     Ok(AstKeyDef {
         col: key_col(alloc)?,
@@ -240,122 +220,24 @@ fn key_def(alloc: Global) -> Result<AstKeyDef, AllocError> {
     })
 }
 
-fn is_key_def(def: &AstKeyDef) -> bool {
-    is_placed(&def.col.name, b'k') && is_number(&def.expr, 6)
-}
-
 fn pair(alloc: Global) -> Result<AstPair, AllocError> {
     let (old, new) = both(placed(alloc, b'i'), placed(alloc, b'j'))?;
     Ok(AstPair { old, new })
-}
-
-fn is_pair(pair: &AstPair) -> bool {
-    is_placed(&pair.old, b'i') && is_placed(&pair.new, b'j')
 }
 
 fn column_arg(alloc: Global) -> Result<AstArg, AllocError> {
     Ok(AstArg::Column(placed(alloc, b'a')?))
 }
 
-fn is_column_arg(arg: &AstArg) -> bool {
-    match arg {
-        AstArg::Column(name) => is_placed(name, b'a'),
-        AstArg::Literal(_) => false,
-    }
-}
-
-fn literal_arg() -> AstArg {
-    AstArg::Literal(AstLit {
-        at: 7,
-        value: AstValue::Flag(true),
-    })
-}
-
-fn is_literal_arg(arg: &AstArg) -> bool {
-    match arg {
-        AstArg::Literal(lit) => {
-            lit.at == 7
-                && match &lit.value {
-                    AstValue::Flag(flag) => *flag,
-                    _ => false,
-                }
-        }
-        AstArg::Column(_) => false,
-    }
+fn literal_arg(alloc: Global) -> Result<AstArg, AllocError> {
+    Ok(AstArg::Literal(lit(alloc, Ok(AstValue::Flag(true)))?))
 }
 
 // A call with one argument and one column.
-fn call(alloc: Global) -> Result<AstCall, AllocError> {
-    let lists = both(
-        one(alloc, column_arg(alloc)),
-        one(alloc, placed(alloc, b'c')),
-    );
+fn call(alloc: Global, arg: Result<AstArg, AllocError>) -> Result<AstCall, AllocError> {
+    let lists = both(one(alloc, arg), one(alloc, placed(alloc, b'c')));
     let (plugin, (args, cols)) = both(placed(alloc, b'p'), lists)?;
     Ok(AstCall { plugin, args, cols })
-}
-
-fn is_call(call: &AstCall) -> bool {
-    is_placed(&call.plugin, b'p')
-        && call.args.get(0).is_some_and(is_column_arg)
-        && call.cols.get(0).is_some_and(|name| is_placed(name, b'c'))
-}
-
-fn text_value(alloc: Global) -> Result<AstValue, AllocError> {
-    Ok(AstValue::Text(text(alloc, b't')?))
-}
-
-fn is_text_value(value: &AstValue) -> bool {
-    match value {
-        AstValue::Text(t) => is_t(t),
-        _ => false,
-    }
-}
-
-fn is_inf_value(value: &AstValue) -> bool {
-    match value {
-        AstValue::Inf => true,
-        _ => false,
-    }
-}
-
-fn is_none_value(value: &AstValue) -> bool {
-    match value {
-        AstValue::None => true,
-        _ => false,
-    }
-}
-
-#[test]
-fn parts_are_copied(rt: HostRuntime) -> Result<(), Fail> {
-    let alloc = rt.alloc();
-    assert!(rt; copies(alloc, columns(alloc), are_columns)?);
-    assert!(rt; copies(alloc, def(alloc), is_def)?);
-    assert!(rt; copies(alloc, key_def(alloc), is_key_def)?);
-    assert!(rt; copies(alloc, pair(alloc), is_pair)?);
-    assert!(rt; copies(alloc, call(alloc), is_call)?);
-    assert!(rt; copies(alloc, column_arg(alloc), is_column_arg)?);
-    assert!(rt; copies(alloc, Ok(literal_arg()), is_literal_arg)?);
-    assert!(rt; copies(alloc, text_value(alloc), is_text_value)?);
-    assert!(rt; copies(alloc, Ok(AstValue::Inf), is_inf_value)?);
-    assert!(rt; copies(alloc, Ok(AstValue::None), is_none_value)?);
-    Ok(())
-}
-
-// The table of a name.
-fn node(alloc: Global) -> Result<AstNode, AllocError> {
-    let op = AstOp::Named(placed(alloc, b'T')?);
-    Ok(AstNode { at: 7, op })
-}
-
-fn named(alloc: Global) -> Result<Boxed<AstNode>, AllocError> {
-    Ok(Boxed::new(alloc, node(alloc)?)?)
-}
-
-fn is_named(node: &AstNode) -> bool {
-    match &node.op {
-        AstOp::Named(name) => node.at == 7 && is_placed(name, b'T'),
-        _ => false,
-    }
 }
 
 fn map_op(alloc: Global) -> Result<AstOp, AllocError> {
@@ -363,34 +245,13 @@ fn map_op(alloc: Global) -> Result<AstOp, AllocError> {
     Ok(AstOp::Map(a, defs))
 }
 
-fn is_map(op: &AstOp) -> bool {
-    match op {
-        AstOp::Map(a, defs) => is_named(a.get()) && defs.get(0).is_some_and(is_def),
-        _ => false,
-    }
-}
-
 fn filter_op(alloc: Global) -> Result<AstOp, AllocError> {
     Ok(AstOp::Filter(named(alloc)?, number(5)))
 }
 
-fn is_filter(op: &AstOp) -> bool {
-    match op {
-        AstOp::Filter(a, test) => is_named(a.get()) && is_number(test, 5),
-        _ => false,
-    }
-}
-
 fn promote_op(alloc: Global) -> Result<AstOp, AllocError> {
-    let (a, def) = both(named(alloc), key_def(alloc))?;
+    let (a, def) = both(named(alloc), copied(alloc, key_def(alloc)))?;
     Ok(AstOp::Promote(a, def))
-}
-
-fn is_promote(op: &AstOp) -> bool {
-    match op {
-        AstOp::Promote(a, def) => is_named(a.get()) && is_key_def(def),
-        _ => false,
-    }
 }
 
 fn rename_op(alloc: Global) -> Result<AstOp, AllocError> {
@@ -398,23 +259,106 @@ fn rename_op(alloc: Global) -> Result<AstOp, AllocError> {
     Ok(AstOp::Rename(a, pairs))
 }
 
-fn is_rename(op: &AstOp) -> bool {
-    match op {
-        AstOp::Rename(a, pairs) => is_named(a.get()) && pairs.get(0).is_some_and(is_pair),
-        _ => false,
-    }
-}
-
-fn apply_op(alloc: Global) -> Result<AstOp, AllocError> {
-    let (a, call) = both(named(alloc), call(alloc))?;
+fn apply_op(alloc: Global, arg: Result<AstArg, AllocError>) -> Result<AstOp, AllocError> {
+    let (a, call) = both(named(alloc), copied(alloc, call(alloc, arg)))?;
     Ok(AstOp::Apply(a, call))
 }
 
-fn is_apply(op: &AstOp) -> bool {
-    match op {
-        AstOp::Apply(a, call) => is_named(a.get()) && is_call(call),
-        _ => false,
+fn behind_defs<'a>(want: &'a [u8], defs: &[AstDef]) -> Option<&'a [u8]> {
+    let mut rest = want;
+    for def in defs {
+        rest = behind_expr(behind_name(rest, &def.col.name)?, &def.expr)?;
     }
+    Some(rest)
+}
+
+fn behind_pairs<'a>(want: &'a [u8], pairs: &[AstPair]) -> Option<&'a [u8]> {
+    let mut rest = want;
+    for pair in pairs {
+        rest = behind_name(behind_name(rest, &pair.old)?, &pair.new)?;
+    }
+    Some(rest)
+}
+
+fn behind_args<'a>(want: &'a [u8], args: &[AstArg]) -> Option<&'a [u8]> {
+    let mut rest = want;
+    for arg in args {
+        rest = match arg {
+            AstArg::Column(name) => behind_name(rest, name)?,
+            AstArg::Literal(lit) => behind_lit(rest, lit)?,
+        };
+    }
+    Some(rest)
+}
+
+// What is left behind a table that no rule of the grammar makes: its place, its word and what follows.
+fn behind_table<'a>(want: &'a [u8], node: &AstNode) -> Option<&'a [u8]> {
+    let rest = behind_place(want, node.at)?;
+    match &node.op {
+        AstOp::Map(a, defs) => {
+            let rest = behind_node(behind(rest, b"map ")?, a.get())?;
+            behind_defs(rest, defs.as_slice())
+        }
+        AstOp::Filter(a, test) => behind_expr(
+            behind_node(behind(rest, b"filter ")?, a.get())?,
+            test,
+        ),
+        AstOp::Promote(a, def) => {
+            let rest = behind_node(behind(rest, b"promote ")?, a.get())?;
+            behind_expr(behind_name(rest, &def.col.name)?, &def.expr)
+        }
+        AstOp::Rename(a, pairs) => {
+            let rest = behind_node(behind(rest, b"rename ")?, a.get())?;
+            behind_pairs(rest, pairs.as_slice())
+        }
+        AstOp::Apply(a, call) => {
+            let rest = behind_node(behind(rest, b"apply ")?, a.get())?;
+            let rest = behind_args(behind_name(rest, &call.plugin)?, call.args.as_slice())?;
+            behind_names(behind(rest, b"by ")?, call.cols.as_slice())
+        }
+        _ => behind_node(want, node),
+    }
+}
+
+// Whether the text shows the copy of what this makes at the place 7.
+fn is_table_copied_as(
+    alloc: Global,
+    op: Result<AstOp, AllocError>,
+    want: &[u8],
+) -> Result<bool, AllocError> {
+    let node = AstNode { at: 7, op: op? };
+    let copy = copy_of(alloc, &node)?;
+    Ok(is_end(behind_table(want, &copy)))
+}
+
+#[test]
+fn literals_are_copied(rt: HostRuntime) -> Result<(), Fail> {
+    let alloc = rt.alloc();
+    let inf = literal_op(alloc, AstValue::Inf);
+    assert!(rt; is_table_copied_as(alloc, inf, b"7 table k@7 : v@7 { 7: t!@7 : inf@7 } ")?);
+    let none = literal_op(alloc, AstValue::None);
+    assert!(rt; is_table_copied_as(alloc, none, b"7 table k@7 : v@7 { 7: t!@7 : none@7 } ")?);
+    Ok(())
+}
+
+#[test]
+fn operators_are_copied(rt: HostRuntime) -> Result<(), Fail> {
+    let alloc = rt.alloc();
+    assert!(rt; is_table_copied_as(alloc, map_op(alloc), b"7 map 7 T@7 v@7 4 5 ")?);
+    assert!(rt; is_table_copied_as(alloc, filter_op(alloc), b"7 filter 7 T@7 4 5 ")?);
+    assert!(rt; is_table_copied_as(alloc, promote_op(alloc), b"7 promote 7 T@7 k@7 4 6 ")?);
+    assert!(rt; is_table_copied_as(alloc, rename_op(alloc), b"7 rename 7 T@7 i@7 j@7 ")?);
+    Ok(())
+}
+
+#[test]
+fn calls_are_copied(rt: HostRuntime) -> Result<(), Fail> {
+    let alloc = rt.alloc();
+    let column = apply_op(alloc, column_arg(alloc));
+    assert!(rt; is_table_copied_as(alloc, column, b"7 apply 7 T@7 p@7 a@7 by c@7 ")?);
+    let literal = apply_op(alloc, literal_arg(alloc));
+    assert!(rt; is_table_copied_as(alloc, literal, b"7 apply 7 T@7 p@7 true@7 by c@7 ")?);
+    Ok(())
 }
 
 fn store(alloc: Global) -> Result<AstStatement, AllocError> {
@@ -422,101 +366,60 @@ fn store(alloc: Global) -> Result<AstStatement, AllocError> {
     Ok(AstStatement::Store { at: 7, old, new })
 }
 
-fn is_store(statement: &AstStatement) -> bool {
-    match statement {
-        AstStatement::Store { at, old, new } => {
-            *at == 7 && is_placed(old, b'i') && is_placed(new, b'j')
-        }
-        _ => false,
-    }
+fn is_store_copied_as(alloc: Global, want: &[u8]) -> Result<bool, AllocError> {
+    let copy = copied(alloc, store(alloc))?;
+    Ok(is_end(behind_statement(want, &copy)))
 }
 
 #[test]
-fn operators_are_copied(rt: HostRuntime) -> Result<(), Fail> {
-    let alloc = rt.alloc();
-    assert!(rt; copies(alloc, node(alloc), is_named)?);
-    assert!(rt; copies(alloc, map_op(alloc), is_map)?);
-    assert!(rt; copies(alloc, filter_op(alloc), is_filter)?);
-    assert!(rt; copies(alloc, promote_op(alloc), is_promote)?);
-    assert!(rt; copies(alloc, rename_op(alloc), is_rename)?);
-    assert!(rt; copies(alloc, apply_op(alloc), is_apply)?);
-    assert!(rt; copies(alloc, store(alloc), is_store)?);
+fn statements_are_copied(rt: HostRuntime) -> Result<(), Fail> {
+    assert!(rt; is_store_copied_as(rt.alloc(), b"7 store i@7 j@7 ")?);
     Ok(())
 }
+
+// ---- tokens
 
 fn text_word(alloc: Global) -> Result<TokenWord, AllocError> {
     Ok(TokenWord::Text(text(alloc, b't')?))
 }
 
-fn is_text_word(word: &TokenWord) -> bool {
-    match word {
-        TokenWord::Text(t) => is_t(t),
-        _ => false,
-    }
+fn is_word_copied_as(
+    alloc: Global,
+    word: Result<TokenWord, AllocError>,
+    want: &[u8],
+) -> Result<bool, AllocError> {
+    let copy = copied(alloc, word)?;
+    Ok(is_end(behind_word(want, &copy)))
 }
-
-fn is_name_word(word: &TokenWord) -> bool {
-    match word {
-        TokenWord::Name => true,
-        _ => false,
-    }
-}
-
-fn is_keyword_word(word: &TokenWord) -> bool {
-    match word {
-        TokenWord::Keyword => true,
-        _ => false,
-    }
-}
-
-fn is_sign_word(word: &TokenWord) -> bool {
-    match word {
-        TokenWord::Sign => true,
-        _ => false,
-    }
-}
-
-fn number_token() -> Token {
-    Token {
-        at: 2,
-        len: 1,
-        word: TokenWord::Number(9),
-    }
-}
-
-fn is_number_token(token: &Token) -> bool {
-    match &token.word {
-        TokenWord::Number(n) => token.at == 2 && token.len == 1 && *n == 9,
-        _ => false,
-    }
-}
-
-const STOPPED: Option<Refusal> = Some(Refusal {
-    at: 3,
-    kind: Kind::BadByte,
-});
 
 // The list of one token, behind which there is a byte that is none.
 fn token_list(alloc: Global) -> Result<TokenList, AllocError> {
-    let list = one(alloc, Ok(number_token()))?;
+    let token = Token {
+        at: 2,
+        len: 1,
+        word: TokenWord::Number(9),
+    };
     Ok(TokenList {
-        list,
-        stopped: STOPPED,
+        list: one(alloc, Ok(token))?,
+        stopped: Some(Refusal {
+            at: 3,
+            kind: Kind::BadByte,
+        }),
     })
 }
 
-fn is_token_list(tokens: &TokenList) -> bool {
-    tokens.list.get(0).is_some_and(is_number_token) && tokens.stopped == STOPPED
+fn is_list_copied_as(alloc: Global, want: &[u8]) -> Result<bool, AllocError> {
+    let copy = copied(alloc, token_list(alloc))?;
+    Ok(are_shown(want, &copy))
 }
 
 #[test]
 fn tokens_are_copied(rt: HostRuntime) -> Result<(), Fail> {
     let alloc = rt.alloc();
-    assert!(rt; copies(alloc, text_word(alloc), is_text_word)?);
-    assert!(rt; copies(alloc, Ok(TokenWord::Name), is_name_word)?);
-    assert!(rt; copies(alloc, Ok(TokenWord::Keyword), is_keyword_word)?);
-    assert!(rt; copies(alloc, Ok(TokenWord::Sign), is_sign_word)?);
-    assert!(rt; copies(alloc, Ok(number_token()), is_number_token)?);
-    assert!(rt; copies(alloc, token_list(alloc), is_token_list)?);
+    assert!(rt; is_word_copied_as(alloc, text_word(alloc), b"text 74 , ")?);
+    assert!(rt; is_word_copied_as(alloc, Ok(TokenWord::Name), b"name, ")?);
+    assert!(rt; is_word_copied_as(alloc, Ok(TokenWord::Keyword), b"keyword, ")?);
+    assert!(rt; is_word_copied_as(alloc, Ok(TokenWord::Sign), b"sign, ")?);
+    assert!(rt; is_list_copied_as(alloc, b"2+1 number 9, 3 BadByte")?);
     Ok(())
 }

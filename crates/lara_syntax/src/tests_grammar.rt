@@ -6,8 +6,7 @@ use crate::ast::{
     AstValCol, AstValue,
 };
 use crate::parsing::parse;
-use crate::tests_shown::{behind, behind_number, behind_place, is_refusal};
-use lara_base::Copied;
+use crate::tests_shown::{behind, behind_number, behind_place, copy_of, is_end, is_refusal};
 use lara_data::ReadFault;
 use std::alloc::{AllocError, Global};
 
@@ -74,12 +73,12 @@ const CASES: [(&[u8], &str); 40] = [
 ];
 
 // What is left behind `NAME@PLACE `.
-fn behind_name<'a>(want: &'a [u8], name: &AstName) -> Option<&'a [u8]> {
+pub fn behind_name<'a>(want: &'a [u8], name: &AstName) -> Option<&'a [u8]> {
     let rest = behind(want, name.name.bytes().as_slice())?;
     behind_place(behind(rest, b"@")?, name.at)
 }
 
-fn behind_names<'a>(want: &'a [u8], names: &[AstName]) -> Option<&'a [u8]> {
+pub fn behind_names<'a>(want: &'a [u8], names: &[AstName]) -> Option<&'a [u8]> {
     let mut rest = want;
     for name in names {
         rest = behind_name(rest, name)?;
@@ -87,12 +86,20 @@ fn behind_names<'a>(want: &'a [u8], names: &[AstName]) -> Option<&'a [u8]> {
     Some(rest)
 }
 
-// What is left behind `NUMBER@PLACE `.
-fn behind_lit<'a>(want: &'a [u8], lit: &AstLit) -> Option<&'a [u8]> {
-    match &lit.value {
-        AstValue::Number(n) => behind_place(behind(behind_number(want, *n)?, b"@")?, lit.at),
-        _ => None,
+fn behind_value<'a>(want: &'a [u8], value: &AstValue) -> Option<&'a [u8]> {
+    match value {
+        AstValue::Number(n) => behind_number(want, *n),
+        AstValue::Text(text) => behind(behind(want, text.bytes().as_slice())?, b"!"),
+        AstValue::Flag(true) => behind(want, b"true"),
+        AstValue::Flag(false) => behind(want, b"false"),
+        AstValue::Inf => behind(want, b"inf"),
+        AstValue::None => behind(want, b"none"),
     }
+}
+
+// What is left behind `VALUE@PLACE `.
+pub fn behind_lit<'a>(want: &'a [u8], lit: &AstLit) -> Option<&'a [u8]> {
+    behind_place(behind(behind_value(want, &lit.value)?, b"@")?, lit.at)
 }
 
 fn behind_lits<'a>(want: &'a [u8], lits: &[AstLit]) -> Option<&'a [u8]> {
@@ -139,7 +146,7 @@ fn behind_type<'a>(want: &'a [u8], ty: &AstType) -> Option<&'a [u8]> {
 }
 
 // What is left behind a table: its place, its word and what follows, each operand likewise.
-fn behind_node<'a>(want: &'a [u8], node: &AstNode) -> Option<&'a [u8]> {
+pub fn behind_node<'a>(want: &'a [u8], node: &AstNode) -> Option<&'a [u8]> {
     let rest = behind_place(want, node.at)?;
     match &node.op {
         AstOp::Load(name) => behind_name(behind(rest, b"load ")?, name),
@@ -165,7 +172,7 @@ fn behind_by<'a>(want: &'a [u8], by: &AstBy) -> Option<&'a [u8]> {
     behind_names(rest, by.names.as_slice())
 }
 
-fn behind_statement<'a>(want: &'a [u8], statement: &AstStatement) -> Option<&'a [u8]> {
+pub fn behind_statement<'a>(want: &'a [u8], statement: &AstStatement) -> Option<&'a [u8]> {
     match statement {
         AstStatement::Assign { at, name, node } => {
             let rest = behind_name(behind_place(want, *at)?, name)?;
@@ -178,7 +185,10 @@ fn behind_statement<'a>(want: &'a [u8], statement: &AstStatement) -> Option<&'a 
                 None => Some(rest),
             }
         }
-        AstStatement::Store { .. } => None,
+        AstStatement::Store { at, old, new } => {
+            let rest = behind(behind_place(want, *at)?, b"store ")?;
+            behind_name(behind_name(rest, old)?, new)
+        }
     }
 }
 
@@ -191,11 +201,7 @@ fn behind_statements<'a>(want: &'a [u8], statements: &[AstStatement]) -> Option<
 }
 
 fn are_statements(want: &[u8], statements: &[AstStatement]) -> bool {
-    behind_statements(want, statements).is_some_and(|rest| rest.is_empty())
-}
-
-fn copy_of<T: Copied>(alloc: Global, value: &T) -> Result<T, AllocError> {
-    value.copy(alloc)
+    is_end(behind_statements(want, statements))
 }
 
 // Whether the text shows a copy of the tree, so that copies are seen to be made.
@@ -278,7 +284,7 @@ fn the_257th_statement_is_refused(rt: HostRuntime) -> Result<(), AllocError> {
 
 fn last_is(want: &[u8], statements: &[AstStatement]) -> bool {
     match statements.last() {
-        Some(last) => behind_statement(want, last).is_some_and(|rest| rest.is_empty()),
+        Some(last) => is_end(behind_statement(want, last)),
         None => false,
     }
 }
@@ -358,7 +364,7 @@ fn the_65th_operator_is_refused(rt: HostRuntime) -> Result<(), AllocError> {
 fn innermost_is(want: &[u8], node: &AstNode) -> bool {
     match &node.op {
         AstOp::Join(_, b) => innermost_is(want, b.get()),
-        _ => behind_node(want, node).is_some_and(|rest| rest.is_empty()),
+        _ => is_end(behind_node(want, node)),
     }
 }
 

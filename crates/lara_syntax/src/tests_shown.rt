@@ -1,6 +1,21 @@
 //! Expected texts, read from the front: each function gives what is left of one behind what it looks for, or None where
 //! something else stands there.
+use lara_base::Copied;
 use lara_data::{Kind, Refusal};
+use std::alloc::{AllocError, Global};
+
+/// A copy, made through the bound.
+pub fn copy_of<T: Copied>(alloc: Global, value: &T) -> Result<T, AllocError> {
+    value.copy(alloc)
+}
+
+/// Whether what was looked for ends the text.
+pub fn is_end(rest: Option<&[u8]>) -> bool {
+    match rest {
+        Some(rest) => rest.is_empty(),
+        None => false,
+    }
+}
 
 /// What is left behind a text.
 pub fn behind<'a>(want: &'a [u8], text: &[u8]) -> Option<&'a [u8]> {
@@ -28,16 +43,24 @@ fn digit(b: u8) -> Option<u64> {
     }
 }
 
+// What is left behind a byte.
+fn tail(bytes: &[u8]) -> &[u8] {
+    match bytes {
+        [_, rest @ ..] => rest,
+        [] => bytes,
+    }
+}
+
 /// What is left behind a number.
 pub fn behind_number(want: &[u8], number: u64) -> Option<&[u8]> {
     let mut value: Option<u64> = None;
     let mut rest = want;
-    while let [b, more @ ..] = rest {
+    for b in want {
         match digit(*b) {
             Some(d) => value = Some(value.unwrap_or(0).wrapping_mul(10).wrapping_add(d)),
             None => break,
         }
-        rest = more;
+        rest = tail(rest);
     }
     if value == Some(number) {
         Some(rest)

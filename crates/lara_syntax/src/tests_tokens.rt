@@ -64,7 +64,7 @@ fn behind_bytes<'a>(want: &'a [u8], bytes: &[u8]) -> Option<&'a [u8]> {
     Some(rest)
 }
 
-fn behind_word<'a>(want: &'a [u8], word: &TokenWord) -> Option<&'a [u8]> {
+pub fn behind_word<'a>(want: &'a [u8], word: &TokenWord) -> Option<&'a [u8]> {
     match word {
         TokenWord::Name => behind(want, b"name, "),
         TokenWord::Keyword => behind(want, b"keyword, "),
@@ -91,16 +91,16 @@ fn behind_tokens<'a>(want: &'a [u8], tokens: &[Token]) -> Option<&'a [u8]> {
     Some(rest)
 }
 
-fn is_end(want: &[u8], stopped: Option<Refusal>) -> bool {
+fn is_stop(want: &[u8], stopped: Option<Refusal>) -> bool {
     match stopped {
         Some(refusal) => is_refusal(want, refusal),
         None => want.is_empty(),
     }
 }
 
-fn are_shown(want: &[u8], tokens: &TokenList) -> bool {
+pub fn are_shown(want: &[u8], tokens: &TokenList) -> bool {
     match behind_tokens(want, tokens.list.as_slice()) {
-        Some(rest) => is_end(rest, tokens.stopped),
+        Some(rest) => is_stop(rest, tokens.stopped),
         None => false,
     }
 }
