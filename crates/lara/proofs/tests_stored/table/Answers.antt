@@ -24,19 +24,22 @@ rows_typed : all_have (types columns.vals) entries ≡ true
 unfolding all_have row_has has_type
 rows_typed = refl
 
-table_typed : are_columns columns.keys columns.vals ≡ true → IsTypedTable (table_of columns entries)
+columns_are : are_columns columns.keys columns.vals ≡ true
+unfolding are_columns
+columns_are = refl
+
+table_typed : IsTypedTable (table_of columns entries)
 unfolding AllKeys tuple_has has_key_type
-table_typed c = IsTypedTable-table_of columns entries c rows_typed (refl, tt)
+table_typed = IsTypedTable-table_of columns entries columns_are rows_typed (refl, tt)
 
 has_columns : {E : Type 0} (r : Result Table E) (ty : Columns) (es : Entries) → IfOk r (λ a. a ≡ table_of ty es) → ty ≡ columns → IfOk r (λ t. t.ty ≡ columns)
 unfolding table_of
 has_columns (Ok t) ty es is e = ap (λ (u : Table). u.ty) is ∙ e
 has_columns (Err x) ty es is e = tt
 
-is_typed : {E : Type 0} (r : Result Table E) (ty : Columns) (es : Entries) → IfOk r (λ a. a ≡ table_of ty es) → ty ≡ columns → es ≡ entries → are_columns ty.keys ty.vals ≡ true → IfOk r IsTypedTable
-is_typed (Ok t) ty es is e f c =
-    subst IsTypedTable (sym (is ∙ ap (λ (u : Columns). table_of u es) e ∙ ap (table_of columns) f)) (table_typed (subst (λ (u : Columns). are_columns u.keys u.vals ≡ true) e c))
-is_typed (Err x) ty es is e f c = tt
+is_typed : {E : Type 0} (r : Result Table E) (ty : Columns) (es : Entries) → IfOk r (λ a. a ≡ table_of ty es) → ty ≡ columns → es ≡ entries → IfOk r IsTypedTable
+is_typed (Ok t) ty es is e f = subst IsTypedTable (sym (is ∙ ap (λ (u : Columns). table_of u es) e ∙ ap (table_of columns) f)) table_typed
+is_typed (Err x) ty es is e f = tt
 
 pub total-requires : goal.total-requires
 total-requires c = rw (c.in_ok-ty.ensures, c.in_ok-entries.ensures) rows_typed
@@ -45,4 +48,4 @@ pub returns-clause-columns : goal.returns-clause-columns
 returns-clause-columns c = has_columns c.total.result _ _ c.total.ensures.table c.in_ok-ty.ensures
 
 pub returns-clause-typed : goal.returns-clause-typed
-returns-clause-typed c = is_typed c.total.result _ _ c.total.ensures.table c.in_ok-ty.ensures c.in_ok-entries.ensures (subst (λ (u : Columns). are_columns u.keys u.vals ≡ true) c.ty.view_is c.ty.invariant)
+returns-clause-typed c = is_typed c.total.result _ _ c.total.ensures.table c.in_ok-ty.ensures c.in_ok-entries.ensures
