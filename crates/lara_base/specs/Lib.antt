@@ -4,4 +4,6 @@ pub mod MemSinks
 pub mod MemSources
 pub mod Moves
 pub mod Names
+pub mod Orders
 pub mod Results
+pub mod Texts

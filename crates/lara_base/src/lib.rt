@@ -3,7 +3,6 @@
 #![tactic(auto)]
 
 mod calls;
-mod content;
 mod copied;
 mod file_name;
 mod list;
@@ -15,10 +14,11 @@ mod name;
 mod read_source;
 mod standard;
 mod streams;
+mod text;
+mod text_order;
 mod write_sink;
 
 pub use calls::Calls;
-pub use content::{Content, Text};
 pub use copied::Copied;
 pub use file_name::FileName;
 pub use list::{Bytes, List, Word};
@@ -29,6 +29,7 @@ pub use read_source::ReadSource;
 pub use sqlite_items::Boxed;
 pub use standard::{StderrSink, StdinSource, StdoutSink};
 pub use streams::{Failed, Sink, Source};
+pub use text::{Content, Text};
 pub use write_sink::WriteSink;
 
 #[cfg(test)]
