@@ -1,3 +1,4 @@
+pub mod CountKind
 pub mod OverFacts
 pub mod ValueKinds
 pub mod WorkedRows

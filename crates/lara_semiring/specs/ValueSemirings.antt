@@ -34,7 +34,8 @@ pub record ValueSemiring : Type 1 where
   pub is_nothing : Element → Bool
   pub nothing_is_nothing : is_nothing nothing ≡ true
   pub only_nothing : (x : Element) → is_element x → is_nothing x ≡ true → x ≡ nothing
-  pub is_over : Value → Bool
+  -- it stands for all that are beyond the range
+  pub is_past : Element → Bool
   -- the values may hold texts, so that a sum, a product and a copy may take memory
   pub has_texts : Bool
   pub no_text : has_texts ≡ false → (v : Value) → has v ≡ true → holds_text v ≡ false
@@ -67,6 +68,10 @@ times_of s a b = s.write (s.product (s.read a) (s.read b))
 -- the value is read as the identity of the sum
 abbrev pub is_zero_of : ValueSemiring → Value → Bool
 is_zero_of s a = s.is_nothing (s.read a)
+
+-- the value is read as what stands for all beyond the range
+abbrev pub is_over_of : ValueSemiring → Value → Bool
+is_over_of s a = s.is_past (s.read a)
 
 module _ (s : ValueSemiring) where
   sum_is : (a b : Value) → s.is_element (s.sum (s.read a) (s.read b))
