@@ -1,5 +1,10 @@
 pub mod CountKind
 pub mod OverFacts
 pub mod ValueKinds
+pub mod WorkedFlags
+pub mod WorkedLasts
+pub mod WorkedMaxMin
+pub mod WorkedMinPlus
+pub mod WorkedPaths
 pub mod WorkedRows
 pub mod WorkedValues

@@ -1,5 +1,16 @@
+pub mod Choices
 pub mod CountVals
 pub mod Counts
+pub mod FlagVals
+pub mod Flags
+pub mod LastVals
+pub mod Lasts
+pub mod MaxMin
+pub mod MaxMinVals
+pub mod MinPlus
+pub mod MinPlusVals
+pub mod PathVals
+pub mod Paths
 pub mod Products
 pub mod Rows
 pub mod Semirings

@@ -2,12 +2,22 @@
 #![tactic(auto)]
 
 mod count;
+mod flag;
+mod last;
+mod max_min;
+mod min_plus;
+mod path;
 mod row;
 mod semiring;
 mod value;
 
 pub use count::CountVal;
+pub use flag::FlagVal;
 pub use lara_base::Text;
+pub use last::LastVal;
+pub use max_min::MaxMinVal;
+pub use min_plus::MinPlusVal;
+pub use path::{PathText, PathVal};
 pub use row::{is_default, is_row_over, row_plus, row_times};
 pub use semiring::Semiring;
 pub use value::{Row, ValType, Value, is_over, plus, same_val_type, times, zero};

@@ -4,10 +4,10 @@ ghost use Rattle.lara_semiring.specs.Rows.{row_has};
 ghost use Rattle.lara_semiring.specs.declared.value.ValType.TheVariants.{Count};
 
 use crate::{
-    CountVal, Row, Semiring, ValType, Value, is_default, is_over, is_row_over, plus, row_plus,
-    row_times, times, zero,
+    CountVal, FlagVal, LastVal, MaxMinVal, MinPlusVal, PathText, PathVal, Row, Semiring, Text,
+    ValType, Value, is_default, is_over, is_row_over, plus, row_plus, row_times, times, zero,
 };
-use lara_base::{Copied, List};
+use lara_base::{Content, Copied, List};
 use std::alloc::{AllocError, Global};
 use std::test::Fail;
 
@@ -240,4 +240,158 @@ fn values_of_a_type(rt: HostRuntime) {
     assert_eq!(rt; number(&zero(rt.alloc(), &ValType::Count)), 0);
     assert!(rt; is_over(&ValType::Count, &Value::Count(OVER)));
     assert!(rt; !is_over(&ValType::Count, &Value::Count(OVER - 1)));
+}
+
+// The sum and the product.
+fn sum_and_product<T: Semiring>(alloc: Global, a: &T, b: &T) -> Result<(T, T), AllocError> {
+    Ok((a.plus(alloc, b)?, a.times(alloc, b)?))
+}
+
+fn distances(alloc: Global, a: u64, b: u64) -> Result<(u64, u64), AllocError> {
+    let (sum, product) = sum_and_product(
+        alloc,
+        &MinPlusVal { number: a },
+        &MinPlusVal { number: b },
+    )?;
+    Ok((sum.number, product.number))
+}
+
+const INF: u64 = u64::MAX;
+
+#[test]
+fn distances_add_up_to_over(rt: HostRuntime) -> Result<(), Fail> {
+    let alloc = rt.alloc();
+    for (a, b, want) in [
+        (3, 4, (3, 7)),
+        (INF - 3, 1, (1, INF - 2)),
+        (INF - 2, 1, (1, INF - 1)),
+        (INF - 2, INF - 2, (INF - 2, INF - 1)),
+        (INF - 1, 0, (0, INF - 1)),
+        (INF, 5, (5, INF)),
+        (5, INF, (5, INF)),
+        (INF, INF - 1, (INF - 1, INF)),
+    ] {
+        assert_eq!(rt; distances(alloc, a, b)?, want, "at {a} and {b}");
+    }
+    Ok(())
+}
+
+fn widths(alloc: Global, a: u64, b: u64) -> Result<(u64, u64), AllocError> {
+    let (sum, product) = sum_and_product(
+        alloc,
+        &MaxMinVal { number: a },
+        &MaxMinVal { number: b },
+    )?;
+    Ok((sum.number, product.number))
+}
+
+#[test]
+fn widths_have_the_greater_and_the_lesser(rt: HostRuntime) -> Result<(), Fail> {
+    let alloc = rt.alloc();
+    for (a, b, want) in [(3, 4, (4, 3)), (0, OVER, (OVER, 0)), (OVER, 9, (OVER, 9))] {
+        assert_eq!(rt; widths(alloc, a, b)?, want, "at {a} and {b}");
+    }
+    Ok(())
+}
+
+fn flags(alloc: Global, a: bool, b: bool) -> Result<(bool, bool), AllocError> {
+    let (sum, product) = sum_and_product(alloc, &FlagVal { is_set: a }, &FlagVal { is_set: b })?;
+    Ok((sum.is_set, product.is_set))
+}
+
+#[test]
+fn flags_have_or_and_and(rt: HostRuntime) -> Result<(), Fail> {
+    let alloc = rt.alloc();
+    assert_eq!(rt; flags(alloc, false, false)?, (false, false));
+    assert_eq!(rt; flags(alloc, true, false)?, (true, false));
+    assert_eq!(rt; flags(alloc, false, true)?, (true, false));
+    assert_eq!(rt; flags(alloc, true, true)?, (true, true));
+    Ok(())
+}
+
+fn content_of(alloc: Global, bytes: &[u8]) -> Result<Content, AllocError> {
+    Content::new(List::from_slice(alloc, bytes)?).ok_or(AllocError)
+}
+
+fn text_of(alloc: Global, bytes: &[u8]) -> Result<LastVal, AllocError> {
+    Ok(Text::Within(content_of(alloc, bytes)?))
+}
+
+fn is_text(text: &LastVal, bytes: &[u8]) -> bool {
+    match text {
+        Text::Within(content) => content.bytes().as_slice() == bytes,
+        Text::Over => false,
+    }
+}
+
+// Whether the sum is the second and the product the first.
+fn is_later(alloc: Global, a: &[u8], b: &[u8]) -> Result<bool, AllocError> {
+    let (sum, product) = sum_and_product(alloc, &text_of(alloc, a)?, &text_of(alloc, b)?)?;
+    Ok(is_text(&sum, b) && is_text(&product, a))
+}
+
+// Whether with `over` the sum is `over` and the product this text.
+fn is_before_over(alloc: Global, a: &[u8]) -> Result<bool, AllocError> {
+    let (sum, product) = sum_and_product(alloc, &text_of(alloc, a)?, &Text::Over)?;
+    Ok(Semiring::is_over(&sum) && is_text(&product, a))
+}
+
+#[test]
+fn the_later_text_stays(rt: HostRuntime) -> Result<(), Fail> {
+    let alloc = rt.alloc();
+    assert!(rt; is_later(alloc, b"ab", b"b")?);
+    assert!(rt; is_later(alloc, b"", b"\0")?);
+    assert!(rt; is_before_over(alloc, b"\xff")?);
+    let (zero, one) = identities::<LastVal>(alloc);
+    assert_eq!(rt; zero_or_over(&zero), (true, false));
+    assert_eq!(rt; zero_or_over(&one), (false, true));
+    Ok(())
+}
+
+fn path_of(alloc: Global, bytes: &[u8]) -> Result<PathVal, AllocError> {
+    Ok(PathText::Within(content_of(alloc, bytes)?))
+}
+
+fn is_path(path: &PathVal, bytes: &[u8]) -> bool {
+    match path {
+        PathText::Within(content) => content.bytes().as_slice() == bytes,
+        _ => false,
+    }
+}
+
+// Whether the sum and the product of two paths are these.
+fn are_paths(
+    alloc: Global,
+    a: &[u8],
+    b: &[u8],
+    sum: &[u8],
+    product: &[u8],
+) -> Result<bool, AllocError> {
+    let (lesser, joined) = sum_and_product(alloc, &path_of(alloc, a)?, &path_of(alloc, b)?)?;
+    Ok(is_path(&lesser, sum) && is_path(&joined, product))
+}
+
+fn is_joined_over(alloc: Global, a: &[u8], b: &[u8]) -> Result<bool, AllocError> {
+    let (_, joined) = sum_and_product(alloc, &path_of(alloc, a)?, &path_of(alloc, b)?)?;
+    Ok(copy_of(alloc, &joined)?.is_over())
+}
+
+// Whether with no path the sum is this text and the product no path.
+fn is_before_none(alloc: Global, a: &[u8]) -> Result<bool, AllocError> {
+    let (sum, product) = sum_and_product(alloc, &PathText::Absent, &path_of(alloc, a)?)?;
+    Ok(is_path(&sum, a) && product.is_zero())
+}
+
+#[test]
+fn paths_are_least_and_go_end_to_end(rt: HostRuntime) -> Result<(), Fail> {
+    let alloc = rt.alloc();
+    assert!(rt; are_paths(alloc, b"ab", b"c", b"c", b"abc")?);
+    assert!(rt; are_paths(alloc, b"ac", b"ab", b"ab", b"acab")?);
+    assert!(rt; !is_joined_over(alloc, &[b'a'; 1000], &[b'a'; 24])?);
+    assert!(rt; is_joined_over(alloc, &[b'a'; 1000], &[b'a'; 25])?);
+    assert!(rt; is_before_none(alloc, b"ab")?);
+    let (zero, one) = identities::<PathVal>(alloc);
+    assert_eq!(rt; zero_or_over(&zero), (true, false));
+    assert_eq!(rt; zero_or_over(&one), (false, false));
+    Ok(())
 }
