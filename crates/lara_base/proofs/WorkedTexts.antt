@@ -1,5 +1,5 @@
 -- Texts worked out by hand: which are some, and how they compare.
-use Rattle.std.specs.Prelude.{◌≡◌, ℕ, true, false, List, [], ◌∷◌, replicate}
+use Rattle.std.specs.Prelude.{◌≡◌, true, false, [], ◌∷◌, replicate}
 use Rattle.std.proofs.Common.{refl}
 use Rattle.std.specs.declared.cmp.Ordering.TheVariants.{Less, Equal, Greater}
 use Rattle.lara_base.specs.declared.text.Text.TheVariants.{Within, Over}

@@ -9,7 +9,7 @@ use Rattle.std.specs.Cmp.Lexicographic.{slice_cmp}
 use Rattle.std.specs.FinMap.{IsAntisymmetric, slice_cmp-IsAntisymmetric}
 use Rattle.std.proofs.lemmas.Bool.{and_parts}
 use Rattle.std.proofs.lemmas.Cmp.{lists_total}
-use Rattle.lara_key.specs.Orders.{IsRanked, ranked_total, ranked_antisymmetric}
+use Rattle.lara_base.specs.Orders.{IsRanked, ranked_total, ranked_antisymmetric}
 use Rattle.lara_key.specs.declared.key.KeyType.{KeyType}
 use Rattle.lara_key.specs.declared.key.KeyType.TheVariants as ty
 use Rattle.lara_key.specs.declared.key.KeyVal.{KeyVal}
