@@ -8,6 +8,7 @@ pub mod PairFacts
 pub mod Places
 pub mod RangeFacts
 pub mod RowFacts
+pub mod RuleFacts
 pub mod RunningFacts
 pub mod SumFacts
 pub mod TableFacts

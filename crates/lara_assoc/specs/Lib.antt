@@ -1,3 +1,4 @@
+pub mod EntryLists
 pub mod Groups
 pub mod JoinColumns
 pub mod Meant

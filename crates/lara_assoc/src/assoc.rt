@@ -2,11 +2,13 @@
 ghost use Rattle.std.specs.Prelude.{◌≡◌, true, [], IfOk};
 ghost use Rattle.std.specs.List.Sorted.{IsPermutation};
 ghost use Rattle.lara_key.specs.Keys.{tuple_cmp};
-ghost use Rattle.lara_data.specs.KeyedTables.{all_have, SameAt};
+ghost use Rattle.lara_data.specs.KeyedTables.{all_have, AllKeys, SameAt};
 ghost use Rattle.lara_data.specs.MapTables.{of_pairs};
 ghost use Rattle.lara_data.specs.Tables.{Entries, table_of, recut, is_in_range};
 ghost use Rattle.lara_data.specs.Algebra.{ordered};
 ghost use Rattle.lara_data.specs.TableTypes.{types, key_names};
+ghost use Rattle.lara_data.specs.TypedTables.{KeyHas, IsTypedTable};
+ghost use Rattle.lara_assoc.specs.Summed.{AreSumsOf};
 
 use crate::keys::{picked, places};
 use crate::range::{is_key_over, is_row_over};
@@ -20,7 +22,7 @@ use std::collections::{BTreeMap, btree_map};
 use std::marker::Model;
 use std::rc::Rc;
 
-/// A table: a finite map from tuples to rows of its type, none of them default. Copies share the map, which is never
+/// A table: a finite map from tuples to rows, each of its type, no row default. Copies share the map, which is never
 /// written again once it is a table's.
 #[derive(Drop)]
 pub struct Assoc {
@@ -29,24 +31,22 @@ pub struct Assoc {
 }
 
 impl Model for Assoc {
-    ghost use Rattle.lara_key.specs.Keys.{tuple_cmp};
-    ghost use Rattle.lara_data.specs.KeyedTables.{IsTypedList};
     ghost use Rattle.lara_data.specs.MapTables.{of_pairs};
     ghost use Rattle.lara_data.specs.Tables.{Table};
-    ghost use Rattle.lara_data.specs.TableTypes.{types};
+    ghost use Rattle.lara_data.specs.TypedTables.{IsTypedTable};
 
     ghost Value = { Table };
 
     ghost view = { λ a. record { ty = a.ty; entries = of_pairs a.rows.value.entries } };
 
-    ghost invariant = { λ a. IsTypedList tuple_cmp (types a.ty.vals) (of_pairs a.rows.value.entries) };
+    ghost invariant = { λ a. IsTypedTable (record { ty = a.ty; entries = of_pairs a.rows.value.entries }) };
 }
 
 impl Assoc {
-    /// The table of a list of entries, whose rows are of the type: at each key the sum of the rows that are listed
-    /// with it.
+    /// The table of a list of entries of the type: at each key the sum of the rows that are listed with it.
     pub fn total(alloc: Global, ty: &TableType, entries: &List<Entry>) -> Result<Assoc, AllocError>
-        requires { all_have (types ty.now.vals) entries.now ≡ true }
+        requires keys { AllKeys (KeyHas ty.now.keys) entries.now }
+        requires rows { all_have (types ty.now.vals) entries.now ≡ true }
         ensures table { IfOk result (λ a. a ≡ table_of ty.now entries.now) }
         ensures any_order { (others : Entries) → IsPermutation others entries.now → IfOk result (λ a. a ≡ table_of ty.now others) }
     {
@@ -59,7 +59,7 @@ impl Assoc {
 
     /// The table of each list of entries that has these sums.
     pub(crate) fn of_sums(alloc: Global, ty: TableType, sums: Sums) -> Result<Assoc, AllocError>
-        requires { sums.types ≡ types ty.vals }
+        requires { AreSumsOf ty sums }
         ensures { (es : Entries) → SameAt tuple_cmp sums.types sums.entries es → IfOk result (λ a. a ≡ table_of ty es) }
     {
         Ok(Assoc {
@@ -76,9 +76,10 @@ impl Assoc {
         Assoc::total(alloc, ty, &entries)
     }
 
-    /// The named columns.
+    /// The named columns, of whose types keys and rows are.
     pub fn ty(&self) -> &TableType
-        ensures { result.now ≡ self.now.ty }
+        ensures columns { result.now ≡ self.now.ty }
+        ensures typed { IsTypedTable self.now }
     {
         &self.ty
     }
@@ -86,7 +87,7 @@ impl Assoc {
     // The keys with their rows, in rising order, in place.
     pub(crate) fn iter(&self) -> btree_map::Iter<'_, Tuple, Row>
         ensures rest { of_pairs result ≡ self.now.entries }
-        ensures typed { all_have (types self.now.ty.vals) self.now.entries ≡ true }
+        ensures typed { IsTypedTable self.now }
     {
         self.rows.as_ref().iter()
     }
@@ -94,7 +95,7 @@ impl Assoc {
     /// The keys with their rows, in rising order.
     pub fn entries(&self, alloc: Global) -> Result<List<Entry>, AllocError>
         ensures value { IfOk result (λ es. es ≡ self.now.entries) }
-        ensures typed { all_have (types self.now.ty.vals) self.now.entries ≡ true }
+        ensures typed { IsTypedTable self.now }
     {
         let mut list = List::new(alloc);
         for (key, row) in self.rows.as_ref().iter() {
