@@ -4,6 +4,7 @@ pub mod JoinFacts
 pub mod MapFacts
 pub mod MeantFacts
 pub mod NewestFacts
+pub mod OrderFacts
 pub mod PairFacts
 pub mod Places
 pub mod RangeFacts

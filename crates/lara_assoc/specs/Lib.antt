@@ -3,6 +3,7 @@ pub mod Groups
 pub mod JoinColumns
 pub mod Meant
 pub mod Newest
+pub mod OwnOrders
 pub mod Places
 pub mod RunningScripts
 pub mod Summed

@@ -13,6 +13,7 @@ use lara_data::{Entry, KeyCol, TableType, ValCol};
 use lara_key::{KeyType, KeyVal, Tuple};
 use lara_semiring::{Row, ValType, Value};
 use std::alloc::{AllocError, Global};
+use std::collections::btree_map;
 use std::test::Fail;
 
 // The name of one letter. In the contracts below 105 is i, 106 j, 107 k, 118 v and 119 w.
@@ -276,23 +277,25 @@ fn is_row(row: &[Value], want: &[u64]) -> bool {
     true
 }
 
-fn are(entries: &[Entry], want: &[(&[u64], &[u64])]) -> bool {
-    if entries.len() != want.len() {
-        return false;
-    }
-    for (i, entry) in entries.iter().enumerate() {
-        let (key, row) = want[i];
-        if !is_key(entry.key.as_slice(), key) || !is_row(entry.row.as_slice(), row) {
+// Whether these are the keys with their rows.
+fn are(cells: btree_map::Iter<'_, Tuple, Row>, want: &[(&[u64], &[u64])]) -> bool {
+    let mut seen = 0usize;
+    for (key, row) in cells {
+        if seen >= want.len() {
             return false;
         }
+        let (numbers, values) = want[seen];
+        if !is_key(key.as_slice(), numbers) || !is_row(row.as_slice(), values) {
+            return false;
+        }
+        seen += 1;
     }
-    true
+    seen == want.len()
 }
 
 // Whether a table has these keys with these rows, and no others.
-fn has(alloc: Global, table: &Assoc, want: &[(&[u64], &[u64])]) -> Result<bool, AllocError> {
-    let entries = table.entries(alloc)?;
-    Ok(are(entries.as_slice(), want))
+fn has(table: &Assoc, want: &[(&[u64], &[u64])]) -> bool {
+    table.len() == want.len() && are(table.iter(), want)
 }
 
 fn product_has(
@@ -302,7 +305,7 @@ fn product_has(
     want: &[(&[u64], &[u64])],
 ) -> Result<bool, AllocError> {
     let all = product(alloc, left, right)?;
-    has(alloc, &all, want)
+    Ok(has(&all, want))
 }
 
 fn sums_have(
@@ -312,7 +315,7 @@ fn sums_have(
     want: &[(&[u64], &[u64])],
 ) -> Result<bool, AllocError> {
     let sums = summed(alloc, left, right)?;
-    has(alloc, &sums, want)
+    Ok(has(&sums, want))
 }
 
 fn sums_at_once_have(
@@ -322,7 +325,7 @@ fn sums_at_once_have(
     want: &[(&[u64], &[u64])],
 ) -> Result<bool, AllocError> {
     let sums = summed_at_once(alloc, left, right)?;
-    has(alloc, &sums, want)
+    Ok(has(&sums, want))
 }
 
 fn both_have(
@@ -332,7 +335,7 @@ fn both_have(
     want: &[(&[u64], &[u64])],
 ) -> Result<bool, AllocError> {
     let all = both(alloc, left, right)?;
-    has(alloc, &all, want)
+    Ok(has(&all, want))
 }
 
 fn joined_pairs_have(
@@ -342,7 +345,7 @@ fn joined_pairs_have(
     want: &[(&[u64], &[u64])],
 ) -> Result<bool, AllocError> {
     let all = joined_pairs(alloc, left, right)?;
-    has(alloc, &all, want)
+    Ok(has(&all, want))
 }
 
 // How many key columns and how many value columns a table has.
@@ -451,7 +454,7 @@ fn copy_of<T: Copied>(alloc: Global, value: &T) -> Result<T, AllocError> {
 fn copy_has(alloc: Global, cells: &[Cell], want: &[(&[u64], &[u64])]) -> Result<bool, AllocError> {
     let a = matrix(alloc, b'i', b'j', cells)?;
     let copy = copy_of(alloc, &a)?;
-    has(alloc, &copy, want)
+    Ok(has(&copy, want))
 }
 
 #[test]
@@ -477,8 +480,8 @@ fn turned_has(
     let mut order = List::new(alloc);
     order.push(name(alloc, b'j')?)?;
     order.push(name(alloc, b'i')?)?;
-    let entries = a.entries_by(alloc, &order)?;
-    Ok(are(entries.as_slice(), want))
+    let turned = a.entries_by(alloc, &order)?;
+    Ok(are(turned.iter(), want))
 }
 
 #[test]
@@ -491,6 +494,27 @@ fn entries_are_stored_in_the_order_of_the_columns(rt: HostRuntime) -> Result<(),
             &[(&[5, 2], &[10]), (&[6, 1], &[2])],
         )?
     );
+    Ok(())
+}
+
+// How many entries a table over i, j has in a list of them.
+fn listed(alloc: Global, cells: &[Cell]) -> Result<usize, AllocError> {
+    let a = matrix(alloc, b'i', b'j', cells)?;
+    Ok(a.entries(alloc)?.len())
+}
+
+// Whether i, j is the order of a table over i and this column.
+fn is_order_ij(alloc: Global, second: u8) -> Result<bool, AllocError> {
+    let a = matrix(alloc, b'i', second, &[])?;
+    Ok(a.is_own_order(&names_ij(alloc)?))
+}
+
+#[test]
+fn entries_are_listed_and_orders_are_known(rt: HostRuntime) -> Result<(), Fail> {
+    let alloc = rt.alloc();
+    assert_eq!(rt; listed(alloc, &[(2, 5, 10), (1, 6, 2), (2, 5, 1)])?, 2);
+    assert!(rt; is_order_ij(alloc, b'j')?);
+    assert!(rt; !is_order_ij(alloc, b'k')?);
     Ok(())
 }
 
