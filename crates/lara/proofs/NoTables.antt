@@ -3,18 +3,14 @@ use Rattle.std.specs.Prelude.{◌≡◌, true, List, [], map, Result, Ok, Err, I
 use Rattle.std.proofs.Common.{refl}
 use Rattle.lara_data.specs.declared.schema.Schema.{Schema}
 use Rattle.lara_data.specs.declared.script.Statement.{Statement}
-use Rattle.lara_data.specs.Denotations.{NamedTable, Database}
-use Rattle.lara_data.specs.Fits.{TablesOf, TablesTyped, ScriptFits}
+use Rattle.lara_data.specs.Denotations.{Database}
+use Rattle.lara_data.specs.Fits.{TablesOf, ScriptFits}
 use Rattle.lara_data.specs.Names.{distinct}
 use Rattle.lara_data.specs.Plugins.{Plugins}
 
 pub no_names_twice : (stored : List Schema) → stored ≡ [] → distinct (map (λ s. s.name) stored) ≡ true
 unfolding distinct
 no_names_twice stored none = rw none refl
-
-pub no_table_untyped : (tables : List NamedTable) → tables ≡ [] → TablesTyped tables
-unfolding TablesTyped
-no_table_untyped tables none = rw none tt
 
 -- A script that fits each database of no names fits the one without tables, also where the other case was changed.
 pub fits_none : {E D : Type 0} (ps : Plugins) (stored : List Schema) (checked : Result (List Statement) E) (result : Result (List Statement) D) (Changed : E → D → Type 0) → stored ≡ [] → MatchResult checked (λ ss. result ≡ Ok ss) (λ e. IsErrAnd result (Changed e)) → IfOk checked (λ ss. (db : Database) → TablesOf stored db → ScriptFits ps db ss) → IfOk result (ScriptFits ps [])

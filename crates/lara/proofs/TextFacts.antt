@@ -2,18 +2,29 @@
 use Rattle.std.proofs.Common.{◌≡◌, ℕ, ◌<◌, ◌≤◌, ◌+◌, List, [], ◌∷◌, ◌++◌, length, take, refl, ap, sym, ◌∙◌, get_or, append_assoc, drop, ◌-◌, arith, true, false, cond, codes}
 use Rattle.std.specs.List.{flat_map}
 use Rattle.lara_data.specs.declared.table_type.KeyCol.{KeyCol}
-use Rattle.lara_data.specs.Names.{same_name}
+use Rattle.lara_data.specs.KeyedTables.{Row}
+use Rattle.lara_data.specs.MapTables.{of_pairs}
+use Rattle.lara_data.specs.Names.{same_name, Tuple}
+use Rattle.lara_data.specs.Tables.{Entry}
 use Rattle.lara.specs.TableTexts.{joined, key_column_text, named_text, key_columns_text}
 use Rattle.std.proofs.lemmas.List.{flat_map_more, take_more, take_all, at_drop_more, at_drop_all, append-nil}
 use Rattle.std.specs.Str.{bytes_eq}
 
 -- a turn of a loop that adds to a text
-pub text_step : {X : Type 0} (f : X → List ℕ) (start text new : List ℕ) (xs : List X) (i : ℕ) (x : X) → i < length xs → x ≡ get_or xs i x → text ≡ start ++ flat_map f (take i xs) → new ≡ text ++ f x → new ≡ start ++ flat_map f (take (i + 1) xs)
+text_step : {X : Type 0} (f : X → List ℕ) (start text new : List ℕ) (xs : List X) (i : ℕ) (x : X) → i < length xs → x ≡ get_or xs i x → text ≡ start ++ flat_map f (take i xs) → new ≡ text ++ f x → new ≡ start ++ flat_map f (take (i + 1) xs)
 text_step f start text new xs i x l is so_far after =
     let more : take (i + 1) xs ≡ take i xs ++ x ∷ [] = take_more xs i x l ∙ ap (λ y. take i xs ++ y ∷ []) (sym is) in
     after ∙ ap (λ t. t ++ f x) so_far ∙ flat_map_more f start (take i xs) x ∙ ap (λ ys. start ++ flat_map f ys) (sym more)
 
--- the same with a text before each item
+-- a turn of a loop over a map, which adds a line, and its end
+pub lines_step : (f : Entry → List ℕ) (text new whole : List ℕ) (it next : List (Tuple × Row)) (k : Tuple) (r : Row) → it ≡ (k, r) ∷ next → new ≡ text ++ f (record { key = k; row = r }) → text ++ flat_map f (of_pairs it) ≡ whole → new ++ flat_map f (of_pairs next) ≡ whole
+lines_step f text new whole it next k r is after so_far =
+    ap (λ t. t ++ flat_map f (of_pairs next)) after ∙ append_assoc text (f (record { key = k; row = r })) (flat_map f (of_pairs next)) ∙ ap (λ (x : List (Tuple × Row)). text ++ flat_map f (of_pairs x)) (sym is) ∙ so_far
+
+pub lines_end : (f : Entry → List ℕ) (text whole : List ℕ) (it : List (Tuple × Row)) → it ≡ [] → text ++ flat_map f (of_pairs it) ≡ whole → text ≡ whole
+lines_end f text whole it none so_far = sym (append-nil text) ∙ ap (λ (x : List (Tuple × Row)). text ++ flat_map f (of_pairs x)) (sym none) ∙ so_far
+
+-- a turn of a loop that adds to a text, with a text before each item
 pub joined_step : {X : Type 0} (between : List ℕ) (f : X → List ℕ) (start text mid new : List ℕ) (xs : List X) (i : ℕ) (x : X) → i < length xs → x ≡ get_or xs i x → text ≡ start ++ flat_map (λ y. between ++ f y) (take i xs) → mid ≡ text ++ between → new ≡ mid ++ f x → new ≡ start ++ flat_map (λ y. between ++ f y) (take (i + 1) xs)
 joined_step between f start text mid new xs i x l is so_far middle after =
     text_step (λ y. between ++ f y) start text new xs i x l is so_far (after ∙ ap (λ t. t ++ f x) middle ∙ append_assoc text between (f x))

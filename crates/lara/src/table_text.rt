@@ -1,15 +1,17 @@
 //! The text of a table.
 ghost use Rattle.std.specs.Prelude.{◌≡◌, ◌++◌, codes, decimal, OnOk};
 ghost use Rattle.std.specs.List.{flat_map};
+ghost use Rattle.lara_data.specs.MapTables.{of_pairs};
 ghost use Rattle.lara.specs.TableTexts.{joined, number_text, key_text, value_text, key_type_text, val_type_text, key_column_text, val_column_text, named_text, key_columns_text, head_text, cell_text, end_text, table_text};
 
 use itoa::Buffer;
 use lara_assoc::Assoc;
 use lara_base::{Bytes, List, Name};
-use lara_data::{Entry, KeyCol, TableType, ValCol};
+use lara_data::{KeyCol, TableType, ValCol};
 use lara_key::{KeyType, KeyVal, Tuple};
 use lara_semiring::{Row, ValType, Value};
 use std::alloc::{AllocError, Global};
+use std::collections::btree_map;
 
 // Adds a number in decimal.
 fn add_decimal(text: &mut Bytes, n: u64) -> Result<(), AllocError>
@@ -105,13 +107,23 @@ fn add_row(text: &mut Bytes, row: &Row) -> Result<(), AllocError>
 
 // Adds a line with a key and its row.
 #[tactic(auto, unfolding(crate::specs::TableTexts::cell_text))]
-fn add_cell(text: &mut Bytes, cell: &Entry) -> Result<(), AllocError>
-    ensures { OnOk result (text.new ≡ text.old ++ cell_text cell.now) }
+fn add_cell(text: &mut Bytes, key: &Tuple, row: &Row) -> Result<(), AllocError>
+    ensures { OnOk result (text.new ≡ text.old ++ cell_text (record { key = key.now; row = row.now })) }
 {
-    add_key(text, &cell.key)?;
+    add_key(text, key)?;
     text.extend_from_slice(b":")?;
-    add_row(text, &cell.row)?;
+    add_row(text, row)?;
     text.extend_from_slice(b"\n")
+}
+
+// Adds a line for each key of a map.
+fn add_cells(text: &mut Bytes, cells: btree_map::Iter<'_, Tuple, Row>) -> Result<(), AllocError>
+    ensures { OnOk result (text.new ≡ text.old ++ flat_map cell_text (of_pairs cells)) }
+{
+    for (key, row) in cells {
+        add_cell(text, key, row)?;
+    }
+    Ok(())
 }
 
 // Adds a key column with its type.
@@ -228,8 +240,9 @@ fn add_end(text: &mut Bytes, cells: usize) -> Result<(), AllocError>
 }
 
 /// Adds the text of a table with its key columns in the given order: a line with the name and the columns, a line for
-/// each key in the rising order of the permuted keys, and a line with their number.
-#[tactic(auto, using(crate::proofs::TextFacts::text_step), unfolding(crate::specs::TableTexts::table_text))]
+/// each key in the rising order of the permuted keys, and a line with their number. In the table's own order the lines
+/// come straight from it.
+#[tactic(auto, unfolding(crate::specs::TableTexts::table_text))]
 pub fn add_table_text(
     alloc: Global,
     text: &mut Bytes,
@@ -239,10 +252,12 @@ pub fn add_table_text(
 ) -> Result<(), AllocError>
     ensures { OnOk result (text.new ≡ text.old ++ table_text name.now order.now table.now) }
 {
-    let cells = table.entries_by(alloc, order)?;
     add_head(text, name, order, table.ty())?;
-    for cell in cells.as_slice() {
-        add_cell(text, cell)?;
+    if table.is_own_order(order) {
+        add_cells(text, table.iter())?;
+        return add_end(text, table.len());
     }
+    let cells = table.entries_by(alloc, order)?;
+    add_cells(text, cells.iter())?;
     add_end(text, cells.len())
 }

@@ -1,15 +1,17 @@
 //! Random small tables: what the program prints of their joins, unions and aggs is the text of the plain operations'.
 ghost use Rattle.std.specs.Prelude.{◌≡◌, ◌<◌, ◌∷◌, [], true, IfOk};
+ghost use Rattle.lara_key.specs.Keys.{tuple_has};
 ghost use Rattle.lara_key.specs.declared.key.KeyType.TheVariants.{Nat};
 ghost use Rattle.lara_semiring.specs.declared.value.ValType.TheVariants.{Count};
-ghost use Rattle.lara_data.specs.KeyedTables.{all_have};
+ghost use Rattle.lara_data.specs.KeyedTables.{AllKeys, all_have};
 
 use crate::tests::{Case, NONE, status};
-use crate::tests_tables::{entry, key_col, name, text_of, val_cols};
+use crate::tests_tables::{key, key_col, name, row, text_of, val_cols};
 use itoa::Buffer;
 use lara_assoc::{Assoc, agg, join, union};
 use lara_base::{Bytes, List, Name};
 use lara_data::{Entry, TableType};
+use lara_key::Tuple;
 use std::alloc::{AllocError, Global};
 use std::test::Fail;
 
@@ -142,13 +144,25 @@ fn columns(alloc: Global, first: u8, second: u8) -> Result<TableType, AllocError
     }
 }
 
-#[tactic(auto, using(lara_data::specs::KeyedTypes::all_have_steps))]
+// The key of two numbers.
+#[tactic(auto, unfolding(lara_key::specs::Keys::tuple_has, lara_key::specs::Keys::has_key_type))]
+fn pair_key(alloc: Global, first: u64, second: u64) -> Result<Tuple, AllocError>
+    ensures { IfOk result (λ k. tuple_has (Nat ∷ Nat ∷ []) k ≡ true) }
+{
+    key(alloc, &[first, second])
+}
+
+#[tactic(auto, using(lara_assoc::specs::EntryLists::entry_steps))]
 fn entries(alloc: Global, cells: &List<Cell>) -> Result<List<Entry>, AllocError>
-    ensures { IfOk result (λ es. all_have (Count ∷ []) es ≡ true) }
+    ensures keys { IfOk result (AllKeys (λ k. tuple_has (Nat ∷ Nat ∷ []) k ≡ true)) }
+    ensures rows { IfOk result (λ es. all_have (Count ∷ []) es ≡ true) }
 {
     let mut entries = List::new(alloc);
     for cell in cells.as_slice() {
-        entries.push(entry(alloc, &[cell.first, cell.second], cell.value)?)?;
+        entries.push(Entry {
+            key: pair_key(alloc, cell.first, cell.second)?,
+            row: row(alloc, cell.value)?,
+        })?;
     }
     Ok(entries)
 }

@@ -4,7 +4,7 @@ ghost use Rattle.lara_key.specs.declared.key.KeyType.TheVariants.{Nat};
 ghost use Rattle.lara_key.specs.declared.key.KeyVal.TheVariants as key;
 ghost use Rattle.lara_semiring.specs.declared.value.ValType.TheVariants.{Count};
 ghost use Rattle.lara_semiring.specs.declared.value.Value.TheVariants as value;
-ghost use Rattle.lara_data.specs.Fits.{TablesOf, TablesTyped};
+ghost use Rattle.lara_data.specs.Fits.{TablesOf};
 ghost use Rattle.lara_data.specs.Names.{distinct};
 ghost use Rattle.lara_data.specs.TypedTables.{IsTypedTable};
 
@@ -61,10 +61,8 @@ fn table(alloc: Global) -> Result<Assoc, AllocError>
 }
 
 // The one stored table, B.
-#[tactic(auto, unfolding(lara_data::specs::Fits::TablesTyped))]
 fn tables(alloc: Global) -> Result<List<NamedTable>, AllocError>
-    ensures typed { IfOk result TablesTyped }
-    ensures is { IfOk result (λ ts. TablesOf (record { name = 66 ∷ []; ty = record { keys = record { name = 107 ∷ []; ty = Nat } ∷ []; vals = record { name = 118 ∷ []; ty = Count } ∷ [] } } ∷ []) ts) }
+    ensures { IfOk result (λ ts. TablesOf (record { name = 66 ∷ []; ty = record { keys = record { name = 107 ∷ []; ty = Nat } ∷ []; vals = record { name = 118 ∷ []; ty = Count } ∷ [] } } ∷ []) ts) }
 {
     let name = name(alloc, b'B')?;
     let table = table(alloc)?;
@@ -96,7 +94,6 @@ fn evaluated(
 ) -> Result<Answers, AllocError>
     requires names { distinct (map (λ s. s.name) schemas.now) ≡ true }
     requires of { TablesOf schemas.now tables.now }
-    requires typed { TablesTyped tables.now }
 {
     let plugins: Vec<Box<dyn Plugin>> = Vec::new(alloc);
     match check(alloc, tree, schemas, &plugins) {

@@ -1,15 +1,17 @@
 //! Tables and their texts where there is memory, with texts worked out by hand. The names in these tests have one letter.
-ghost use Rattle.std.specs.Prelude.{◌≡◌, ◌∷◌, [], true, IfOk};
+ghost use Rattle.std.specs.Prelude.{◌≡◌, ◌∷◌, [], true, map, IfOk};
+ghost use Rattle.lara_key.specs.Keys.{tuple_has};
 ghost use Rattle.lara_key.specs.declared.key.KeyType.TheVariants.{Nat};
+ghost use Rattle.lara_key.specs.declared.key.KeyVal.TheVariants as key;
 ghost use Rattle.lara_semiring.specs.Rows.{row_has};
 ghost use Rattle.lara_semiring.specs.declared.value.ValType.TheVariants.{Count};
-ghost use Rattle.lara_data.specs.TableTypes.{types};
+ghost use Rattle.lara_data.specs.TableTypes.{types, key_types};
 
 use crate::table_text::add_table_text;
 use lara_assoc::Assoc;
 use lara_base::{Bytes, List, Name};
 use lara_data::{Entry, KeyCol, TableType, ValCol};
-use lara_key::{KeyType, KeyVal};
+use lara_key::{KeyType, KeyVal, Tuple};
 use lara_semiring::{Row, ValType, Value};
 use std::alloc::{AllocError, Global};
 use std::test::Fail;
@@ -88,29 +90,59 @@ pub fn row(alloc: Global, value: u64) -> Result<Row, AllocError>
     Ok(row)
 }
 
-/// The entry at the key of these numbers.
-pub fn entry(alloc: Global, numbers: &[u64], value: u64) -> Result<Entry, AllocError>
-    ensures { IfOk result (λ e. row_has (Count ∷ []) e.row ≡ true) }
+/// The key of these numbers.
+pub fn key(alloc: Global, numbers: &[u64]) -> Result<Tuple, AllocError>
+    ensures { IfOk result (λ k. k ≡ map key.Nat numbers.now) }
 {
     let mut key = List::new(alloc);
     for n in numbers {
         key.push(KeyVal::Nat(*n))?;
     }
-    Ok(Entry {
-        key,
-        row: row(alloc, value)?,
-    })
+    Ok(key)
+}
+
+// Whether a key has a number for each of these columns.
+#[tactic(auto, unfolding(lara_key::specs::Keys::tuple_has, lara_key::specs::Keys::has_key_type))]
+fn has_each(keys: &[KeyCol], key: &[KeyVal]) -> bool
+    ensures { result ≡ tuple_has (key_types keys.now) key.now }
+{
+    match (keys, key) {
+        ([], []) => true,
+        ([_, keys @ ..], [_, key @ ..]) => has_each(keys, key),
+        _ => false,
+    }
+}
+
+fn is_key_of(ty: &TableType, key: &Tuple) -> bool
+    ensures { result ≡ tuple_has (key_types ty.now.keys) key.now }
+{
+    has_each(ty.keys.as_slice(), key.as_slice())
+}
+
+// The key of these numbers, which are to be as many as the key columns.
+fn key_of(alloc: Global, ty: &TableType, numbers: &[u64]) -> Result<Tuple, AllocError>
+    ensures { IfOk result (λ k. tuple_has (key_types ty.now.keys) k ≡ true) }
+{
+    let key = key(alloc, numbers)?;
+    if is_key_of(ty, &key) {
+        Ok(key)
+    } else {
+        Err(AllocError)
+    }
 }
 
 type Cells<'a> = &'a [(&'a [u64], u64)];
 
-#[tactic(auto, using(lara_data::specs::KeyedTypes::all_have_steps))]
+#[tactic(auto, using(lara_assoc::specs::EntryLists::entry_steps))]
 fn table(alloc: Global, letters: &[u8], cells: Cells<'_>) -> Result<Assoc, AllocError> {
-    let mut entries = List::new(alloc);
-    for (key, value) in cells {
-        entries.push(entry(alloc, key, *value)?)?;
-    }
     let ty = columns(alloc, letters)?;
+    let mut entries = List::new(alloc);
+    for (numbers, value) in cells {
+        entries.push(Entry {
+            key: key_of(alloc, &ty, numbers)?,
+            row: row(alloc, *value)?,
+        })?;
+    }
     Assoc::total(alloc, &ty, &entries)
 }
 

@@ -4,10 +4,12 @@ pub mod JoinFacts
 pub mod MapFacts
 pub mod MeantFacts
 pub mod NewestFacts
+pub mod OrderFacts
 pub mod PairFacts
 pub mod Places
 pub mod RangeFacts
 pub mod RowFacts
+pub mod RuleFacts
 pub mod RunningFacts
 pub mod SumFacts
 pub mod TableFacts

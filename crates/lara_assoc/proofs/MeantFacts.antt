@@ -1,5 +1,5 @@
 -- The operands of a tree that is meant are meant, and what is made of their tables is what the tree means.
-use Rattle.std.proofs.Common.{◌≡◌, true, List, sym, ap, ◌∙◌, refl}
+use Rattle.std.proofs.Common.{◌≡◌, List, Ok, sym, ap, ◌∙◌, refl}
 use Rattle.std.proofs.Math.Path.{subst}
 use Rattle.lara_data.specs.declared.node.Node.{Node}
 use Rattle.lara_data.specs.declared.node.Op.{Op}
@@ -10,17 +10,15 @@ use Rattle.lara_data.specs.declared.arg.Def.{Def}
 use Rattle.lara_data.specs.declared.arg.KeyDef.{KeyDef}
 use Rattle.lara_data.specs.declared.arg.NamePair.{NamePair}
 use Rattle.lara_data.specs.declared.expr.Expr.{Expr}
-use Rattle.lara_data.specs.TableTypes.{types, are_columns}
 use Rattle.lara_data.specs.Names.{Name}
-use Rattle.lara_data.specs.KeyedTables.{all_have}
 use Rattle.lara_data.specs.Tables.{Entries, Table, table_of}
-use Rattle.lara_data.specs.Algebra.{join_columns, union_columns, agg_columns, join_tables, union_tables, agg_table}
+use Rattle.lara_data.specs.Algebra.{join_columns, join_tables, union_tables, agg_table}
+use Rattle.lara_data.specs.TypeRules.{join_type, union_type, agg_type}
 use Rattle.lara_data.specs.Plugins.{Plugins}
 use Rattle.lara_data.specs.Denotations.{NamedTable, Database, table_named, table_or_empty, meaning, meaning_of}
-use Rattle.lara_data.specs.Fits.{OpFits, IsTableOf}
+use Rattle.lara_data.specs.Fits.{OpFits}
 use Rattle.lara_data.specs.TypedTrees.{OpTyped, IsLiteral}
-use Rattle.lara_data.specs.TypeRuleLaws.{join_type_rules, union_type_rules, agg_type_rules}
-use Rattle.lara_data.specs.MeaningLaws.{IsTableOf-meaning, IsTableOf-join, IsTableOf-union, IsTableOf-agg}
+use Rattle.lara_data.specs.MeaningLaws.{IsTableOf-meaning}
 use Rattle.lara_data.proofs.FitEquations.{fits_Join, fits_Union, fits_Agg}
 use Rattle.lara_data.proofs.MeaningEquations.{meaning_Load, meaning_Named, meaning_Literal, meaning_Join, meaning_Union, meaning_Agg}
 use Rattle.lara_data.proofs.TypedEquations.{typed_Literal, typed_Join, typed_Union, typed_Agg, typed_Map, typed_Filter, typed_Promote, typed_Rename, typed_Apply}
@@ -33,8 +31,9 @@ fits_as : (ps : Plugins) (db : Database) (node : Node) (o : Op) (T : Type 0) →
 fits_as ps db node o T e q h = subst (λ (X : Type 0). X) q (subst (λ (p : Op). OpFits ps db p node.ty) e h)
 
 module _ (ps : Plugins) (db : Database) (tables : List NamedTable) where
-  its_table : (node : Node) → IsMeant ps db tables node → IsTableOf node.ty (meaning_of ps db tables node)
-  its_table node h = IsTableOf-meaning ps db h.known tables h.stands node.op node.ty h.typed h.fits
+  -- the table of a tree has the columns of its node
+  its_columns : (node x : Node) (t : Table) → x ≡ node → t ≡ meaning_of ps db tables x → IsMeant ps db tables node → t.ty ≡ node.ty
+  its_columns node x t i p h = ap (λ (z : Table). z.ty) (p ∙ ap (meaning_of ps db tables) i) ∙ (IsTableOf-meaning ps db h.known tables h.stands node.op node.ty h.typed h.fits).columns
 
   from_op : (node : Node) (o : Op) → node.op ≡ o → meaning ps db tables o node.ty ≡ meaning_of ps db tables node
   from_op node o e = ap (λ (p : Op). meaning ps db tables p node.ty) (sym e)
@@ -48,8 +47,8 @@ module _ (ps : Plugins) (db : Database) (tables : List NamedTable) where
   pub literal_means : (node : Node) (es : Entries) → node.op ≡ Literal es → table_of node.ty es ≡ meaning_of ps db tables node
   literal_means node es e = sym (meaning_Literal ps db tables es node.ty) ∙ from_op node (Literal es) e
 
-  pub literal_has : (node : Node) (es : Entries) → node.op ≡ Literal es → IsMeant ps db tables node → all_have (types node.ty.vals) es ≡ true
-  literal_has node es e h = (typed_as h.known node (Literal es) (IsLiteral node.ty es) e (typed_Literal h.known es node.ty) h.typed).rows
+  pub literal_typed : (node : Node) (es : Entries) → node.op ≡ Literal es → IsMeant ps db tables node → IsLiteral node.ty es
+  literal_typed node es e h = typed_as h.known node (Literal es) (IsLiteral node.ty es) e (typed_Literal h.known es node.ty) h.typed
 
   -- joins
   pub join_left : (node a b x : Node) → node.op ≡ Join a b → x ≡ a → IsMeant ps db tables node → IsMeant ps db tables x
@@ -68,14 +67,10 @@ module _ (ps : Plugins) (db : Database) (tables : List NamedTable) where
   join_means node a b x y l r e i j p q =
       (λ k. join_tables ((p ∙ ap (meaning_of ps db tables) i) k) ((q ∙ ap (meaning_of ps db tables) j) k)) ∙ sym (meaning_Join ps db tables a b node.ty) ∙ from_op node (Join a b) e
 
-  pub join_are : (node a b x y : Node) (l r : Table) → node.op ≡ Join a b → x ≡ a → y ≡ b → IsMeant ps db tables node → l ≡ meaning_of ps db tables x → r ≡ meaning_of ps db tables y → are_columns (join_columns l.ty r.ty).keys (join_columns l.ty r.ty).vals ≡ true
-  unfolding join_tables
-  join_are node a b x y l r e i j h p q =
+  pub join_typed : (node a b x y : Node) (l r : Table) → node.op ≡ Join a b → x ≡ a → y ≡ b → IsMeant ps db tables node → l ≡ meaning_of ps db tables x → r ≡ meaning_of ps db tables y → join_type l.ty r.ty ≡ Ok node.ty
+  join_typed node a b x y l r e i j h p q =
       let t = typed_as h.known node (Join a b) _ e (typed_Join h.known a b node.ty) h.typed in
-      let s = its_table a (join_left node a b a e refl h) in
-      let u = its_table b (join_right node a b b e refl h) in
-      (λ k. are_columns (join_columns ((p ∙ ap (meaning_of ps db tables) i) k).ty ((q ∙ ap (meaning_of ps db tables) j) k).ty).keys (join_columns ((p ∙ ap (meaning_of ps db tables) i) k).ty ((q ∙ ap (meaning_of ps db tables) j) k).ty).vals)
-      ∙ (IsTableOf-join (meaning_of ps db tables a) (meaning_of ps db tables b) a.ty b.ty node.ty s u (join_type_rules a.ty b.ty node.ty t.0)).typed.columns
+      (λ k. join_type (its_columns a x l i p (join_left node a b a e refl h) k) (its_columns b y r j q (join_right node a b b e refl h) k)) ∙ t.0
 
   -- unions
   pub union_left : (node a b x : Node) → node.op ≡ Union a b → x ≡ a → IsMeant ps db tables node → IsMeant ps db tables x
@@ -94,14 +89,10 @@ module _ (ps : Plugins) (db : Database) (tables : List NamedTable) where
   union_means node a b x y l r e i j p q =
       (λ k. union_tables ((p ∙ ap (meaning_of ps db tables) i) k) ((q ∙ ap (meaning_of ps db tables) j) k)) ∙ sym (meaning_Union ps db tables a b node.ty) ∙ from_op node (Union a b) e
 
-  pub union_are : (node a b x y : Node) (l r : Table) → node.op ≡ Union a b → x ≡ a → y ≡ b → IsMeant ps db tables node → l ≡ meaning_of ps db tables x → r ≡ meaning_of ps db tables y → are_columns (union_columns l.ty r.ty).keys (union_columns l.ty r.ty).vals ≡ true
-  unfolding union_tables
-  union_are node a b x y l r e i j h p q =
+  pub union_typed : (node a b x y : Node) (l r : Table) → node.op ≡ Union a b → x ≡ a → y ≡ b → IsMeant ps db tables node → l ≡ meaning_of ps db tables x → r ≡ meaning_of ps db tables y → union_type l.ty r.ty ≡ Ok node.ty
+  union_typed node a b x y l r e i j h p q =
       let t = typed_as h.known node (Union a b) _ e (typed_Union h.known a b node.ty) h.typed in
-      let s = its_table a (union_left node a b a e refl h) in
-      let u = its_table b (union_right node a b b e refl h) in
-      (λ k. are_columns (union_columns ((p ∙ ap (meaning_of ps db tables) i) k).ty ((q ∙ ap (meaning_of ps db tables) j) k).ty).keys (union_columns ((p ∙ ap (meaning_of ps db tables) i) k).ty ((q ∙ ap (meaning_of ps db tables) j) k).ty).vals)
-      ∙ (IsTableOf-union (meaning_of ps db tables a) (meaning_of ps db tables b) a.ty b.ty node.ty s u (union_type_rules a.ty b.ty node.ty t.0)).typed.columns
+      (λ k. union_type (its_columns a x l i p (union_left node a b a e refl h) k) (its_columns b y r j q (union_right node a b b e refl h) k)) ∙ t.0
 
   -- aggs
   pub agg_below : (node a x : Node) (ks : List Name) → node.op ≡ Agg a ks → x ≡ a → IsMeant ps db tables node → IsMeant ps db tables x
@@ -114,21 +105,18 @@ module _ (ps : Plugins) (db : Database) (tables : List NamedTable) where
   agg_means node a x ks l e i p =
       ap (λ (t : Table). agg_table t ks) (p ∙ ap (meaning_of ps db tables) i) ∙ sym (meaning_Agg ps db tables a ks node.ty) ∙ from_op node (Agg a ks) e
 
-  pub agg_are : (node a x : Node) (ks : List Name) (l : Table) → node.op ≡ Agg a ks → x ≡ a → IsMeant ps db tables node → l ≡ meaning_of ps db tables x → are_columns (agg_columns l.ty ks).keys (agg_columns l.ty ks).vals ≡ true
-  unfolding agg_table
-  agg_are node a x ks l e i h p =
+  pub agg_typed : (node a x : Node) (ks : List Name) (l : Table) → node.op ≡ Agg a ks → x ≡ a → IsMeant ps db tables node → l ≡ meaning_of ps db tables x → agg_type l.ty ks ≡ Ok node.ty
+  agg_typed node a x ks l e i h p =
       let t = typed_as h.known node (Agg a ks) _ e (typed_Agg h.known a ks node.ty) h.typed in
-      let s = its_table a (agg_below node a a ks e refl h) in
-      ap (λ (z : Table). are_columns (agg_columns z.ty ks).keys (agg_columns z.ty ks).vals) (p ∙ ap (meaning_of ps db tables) i)
-      ∙ (IsTableOf-agg (meaning_of ps db tables a) a.ty ks node.ty s (agg_type_rules a.ty ks node.ty t.0)).typed.columns
+      (λ k. agg_type (its_columns a x l i p (agg_below node a a ks e refl h) k) ks) ∙ t.0
 
   -- aggs of joins
   pub agg_join_means : (node a x l r y z : Node) (ks : List Name) (s t : Table) → node.op ≡ Agg a ks → x ≡ a → x.op ≡ Join l r → y ≡ l → z ≡ r → s ≡ meaning_of ps db tables y → t ≡ meaning_of ps db tables z → agg_table (join_tables s t) ks ≡ meaning_of ps db tables node
   agg_join_means node a x l r y z ks s t e i o p q u v = agg_means node a x ks (join_tables s t) e i (join_means x l r y z s t o p q u v)
 
-  pub agg_join_are : (node a x l r y z : Node) (ks : List Name) (s t : Table) → node.op ≡ Agg a ks → x ≡ a → x.op ≡ Join l r → y ≡ l → z ≡ r → IsMeant ps db tables node → s ≡ meaning_of ps db tables y → t ≡ meaning_of ps db tables z → are_columns (agg_columns (join_columns s.ty t.ty) ks).keys (agg_columns (join_columns s.ty t.ty) ks).vals ≡ true
+  pub agg_join_typed : (node a x l r y z : Node) (ks : List Name) (s t : Table) → node.op ≡ Agg a ks → x ≡ a → x.op ≡ Join l r → y ≡ l → z ≡ r → IsMeant ps db tables node → s ≡ meaning_of ps db tables y → t ≡ meaning_of ps db tables z → agg_type (join_columns s.ty t.ty) ks ≡ Ok node.ty
   unfolding join_tables
-  agg_join_are node a x l r y z ks s t e i o p q h u v = agg_are node a x ks (join_tables s t) e i h (join_means x l r y z s t o p q u v)
+  agg_join_typed node a x l r y z ks s t e i o p q h u v = agg_typed node a x ks (join_tables s t) e i h (join_means x l r y z s t o p q u v)
 
   -- no tree that is meant has an operator without a type
   pub no_map : (node a : Node) (ds : List Def) → node.op ≡ Map a ds → IsMeant ps db tables node → ⊥

@@ -1,18 +1,21 @@
 //! A table on an ordered map.
-ghost use Rattle.std.specs.Prelude.{◌≡◌, true, [], IfOk};
+ghost use Rattle.std.specs.Prelude.{◌≡◌, ◌↔◌, true, [], length, IfOk, IsTrue};
 ghost use Rattle.std.specs.List.Sorted.{IsPermutation};
 ghost use Rattle.lara_key.specs.Keys.{tuple_cmp};
-ghost use Rattle.lara_data.specs.KeyedTables.{all_have, SameAt};
+ghost use Rattle.lara_data.specs.KeyedTables.{all_have, AllKeys, SameAt};
 ghost use Rattle.lara_data.specs.MapTables.{of_pairs};
 ghost use Rattle.lara_data.specs.Tables.{Entries, table_of, recut, is_in_range};
 ghost use Rattle.lara_data.specs.Algebra.{ordered};
 ghost use Rattle.lara_data.specs.TableTypes.{types, key_names};
+ghost use Rattle.lara_data.specs.TypedTables.{KeyHas, IsTypedTable};
+ghost use Rattle.lara_assoc.specs.OwnOrders.{are_names};
+ghost use Rattle.lara_assoc.specs.Summed.{AreSumsOf};
 
 use crate::keys::{picked, places};
 use crate::range::{is_key_over, is_row_over};
 use crate::sums::Sums;
 use lara_base::{Copied, List, Name};
-use lara_data::{Entry, TableType};
+use lara_data::{Entry, KeyCol, TableType};
 use lara_key::Tuple;
 use lara_semiring::Row;
 use std::alloc::{AllocError, Global};
@@ -20,7 +23,7 @@ use std::collections::{BTreeMap, btree_map};
 use std::marker::Model;
 use std::rc::Rc;
 
-/// A table: a finite map from tuples to rows of its type, none of them default. Copies share the map, which is never
+/// A table: a finite map from tuples to rows, each of its type, no row default. Copies share the map, which is never
 /// written again once it is a table's.
 #[derive(Drop)]
 pub struct Assoc {
@@ -29,24 +32,43 @@ pub struct Assoc {
 }
 
 impl Model for Assoc {
-    ghost use Rattle.lara_key.specs.Keys.{tuple_cmp};
-    ghost use Rattle.lara_data.specs.KeyedTables.{IsTypedList};
     ghost use Rattle.lara_data.specs.MapTables.{of_pairs};
     ghost use Rattle.lara_data.specs.Tables.{Table};
-    ghost use Rattle.lara_data.specs.TableTypes.{types};
+    ghost use Rattle.lara_data.specs.TypedTables.{IsTypedTable};
 
     ghost Value = { Table };
 
     ghost view = { λ a. record { ty = a.ty; entries = of_pairs a.rows.value.entries } };
 
-    ghost invariant = { λ a. IsTypedList tuple_cmp (types a.ty.vals) (of_pairs a.rows.value.entries) };
+    ghost invariant = { λ a. IsTypedTable (record { ty = a.ty; entries = of_pairs a.rows.value.entries }) };
+}
+
+// Whether these are the names of the columns, in their sequence.
+fn are_names(keys: &[KeyCol], names: &[Name]) -> bool
+    ensures { result ≡ are_names keys.now names.now }
+{
+    match keys {
+        [] => match names {
+            [] => true,
+            [_first, _rest @ ..] => false,
+        },
+        [key, other_keys @ ..] => match names {
+            [] => false,
+            [name, other_names @ ..] => {
+                if !name.same(&key.name) {
+                    return false;
+                }
+                are_names(other_keys, other_names)
+            }
+        },
+    }
 }
 
 impl Assoc {
-    /// The table of a list of entries, whose rows are of the type: at each key the sum of the rows that are listed
-    /// with it.
+    /// The table of a list of entries of the type: at each key the sum of the rows that are listed with it.
     pub fn total(alloc: Global, ty: &TableType, entries: &List<Entry>) -> Result<Assoc, AllocError>
-        requires { all_have (types ty.now.vals) entries.now ≡ true }
+        requires keys { AllKeys (KeyHas ty.now.keys) entries.now }
+        requires rows { all_have (types ty.now.vals) entries.now ≡ true }
         ensures table { IfOk result (λ a. a ≡ table_of ty.now entries.now) }
         ensures any_order { (others : Entries) → IsPermutation others entries.now → IfOk result (λ a. a ≡ table_of ty.now others) }
     {
@@ -59,7 +81,7 @@ impl Assoc {
 
     /// The table of each list of entries that has these sums.
     pub(crate) fn of_sums(alloc: Global, ty: TableType, sums: Sums) -> Result<Assoc, AllocError>
-        requires { sums.types ≡ types ty.vals }
+        requires { AreSumsOf ty sums }
         ensures { (es : Entries) → SameAt tuple_cmp sums.types sums.entries es → IfOk result (λ a. a ≡ table_of ty es) }
     {
         Ok(Assoc {
@@ -76,25 +98,33 @@ impl Assoc {
         Assoc::total(alloc, ty, &entries)
     }
 
-    /// The named columns.
+    /// The named columns, of whose types keys and rows are.
     pub fn ty(&self) -> &TableType
-        ensures { result.now ≡ self.now.ty }
+        ensures columns { result.now ≡ self.now.ty }
+        ensures typed { IsTypedTable self.now }
     {
         &self.ty
     }
 
-    // The keys with their rows, in rising order, in place.
-    pub(crate) fn iter(&self) -> btree_map::Iter<'_, Tuple, Row>
+    /// The keys with their rows, in rising order, in place.
+    pub fn iter(&self) -> btree_map::Iter<'_, Tuple, Row>
         ensures rest { of_pairs result ≡ self.now.entries }
-        ensures typed { all_have (types self.now.ty.vals) self.now.entries ≡ true }
+        ensures typed { IsTypedTable self.now }
     {
         self.rows.as_ref().iter()
     }
 
-    /// The keys with their rows, in rising order.
+    /// How many keys it has.
+    pub fn len(&self) -> usize
+        ensures { result ≡ length self.now.entries }
+    {
+        self.rows.as_ref().len()
+    }
+
+    /// The keys with their rows, in rising order, copied.
     pub fn entries(&self, alloc: Global) -> Result<List<Entry>, AllocError>
         ensures value { IfOk result (λ es. es ≡ self.now.entries) }
-        ensures typed { all_have (types self.now.ty.vals) self.now.entries ≡ true }
+        ensures typed { IsTypedTable self.now }
     {
         let mut list = List::new(alloc);
         for (key, row) in self.rows.as_ref().iter() {
@@ -119,12 +149,23 @@ impl Assoc {
         Ok(sums)
     }
 
-    /// The entries with their key columns in the given order, rising.
-    #[tactic(auto, unfolding(lara_data::specs::Algebra::ordered))]
-    pub fn entries_by(&self, alloc: Global, order: &List<Name>) -> Result<List<Entry>, AllocError>
-        ensures { IfOk result (λ es. es ≡ ordered self.now order.now) }
+    /// Whether the key columns stand in this order, in which the entries are then as they are.
+    pub fn is_own_order(&self, order: &List<Name>) -> bool
+        ensures exact { IsTrue result ↔ (order.now ≡ key_names self.now.ty.keys) }
+        ensures same { IsTrue result → ordered self.now order.now ≡ self.now.entries }
     {
-        self.recut(alloc, order)?.into_entries(alloc)
+        are_names(self.ty.keys.as_slice(), order.as_slice())
+    }
+
+    /// The entries with their key columns in the given order, in a map of their own.
+    pub fn entries_by(
+        &self,
+        alloc: Global,
+        order: &List<Name>,
+    ) -> Result<BTreeMap<Tuple, Row>, AllocError>
+        ensures { IfOk result (λ m. of_pairs m.entries ≡ ordered self.now order.now) }
+    {
+        Ok(self.recut(alloc, order)?.into_rows())
     }
 
     /// Whether no key column and no value is `over`.

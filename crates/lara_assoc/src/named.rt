@@ -2,6 +2,7 @@
 ghost use Rattle.std.specs.Prelude.{◌≡◌, IfOk};
 ghost use Rattle.std.specs.Option.{option_copied};
 ghost use Rattle.lara_data.specs.Denotations.{table_named, table_or_empty};
+ghost use Rattle.lara_data.specs.Fits.{TablesTyped};
 
 use crate::assoc::Assoc;
 use lara_base::{Copied, List, Name};
@@ -98,5 +99,14 @@ pub fn copy_named(
     match table_named(tables, name) {
         Some(table) => table.copy(alloc),
         None => Assoc::empty(alloc, ty),
+    }
+}
+
+/// Each of the tables is of its type, as its `Assoc` keeps. The loop does nothing but to say so of all of them.
+pub fn are_typed(tables: &List<NamedTable>)
+    ensures { TablesTyped tables.now }
+{
+    for named in tables.as_slice() {
+        let _columns = named.table.ty();
     }
 }

@@ -1,11 +1,11 @@
 //! The plain evaluation of a script, statement by statement.
 ghost use Rattle.std.specs.Prelude.{◌≡◌, ◌<◌, ◌^◌, ◌-◌, length, IfOk, OnOk};
 ghost use Rattle.lara_data.specs.Plugins.{handed};
-ghost use Rattle.lara_data.specs.Fits.{ScriptFits, TablesTyped};
+ghost use Rattle.lara_data.specs.Fits.{ScriptFits};
 ghost use Rattle.lara_data.specs.Denotations.{denotation};
 
 use crate::assigned::Assigned;
-use crate::named::{Answers, NamedTable, Printed, Stored};
+use crate::named::{Answers, NamedTable, Printed, Stored, are_typed};
 use crate::trees::table_of;
 use lara_base::{Copied, List, Name};
 use lara_data::{Node, Order, Plugin, Script, Statement};
@@ -103,10 +103,10 @@ pub fn eval(
     plugins: &Vec<Box<dyn Plugin>>,
 ) -> Result<Answers, AllocError>
     requires few { length script.now < 2 ^ 32 }
-    requires tables { TablesTyped tables.now }
     requires fits { ScriptFits (handed ⟦<dyn Plugin as Plugin>⟧ plugins.now.items) tables.now script.now }
     ensures { IfOk result (λ a. a ≡ denotation (handed ⟦<dyn Plugin as Plugin>⟧ plugins.now.items) tables.now script.now) }
 {
+    are_typed(tables);
     let mut running = Running {
         statement: 0,
         assigned: Assigned::new(alloc),

@@ -1,9 +1,10 @@
 //! The union of two tables.
-ghost use Rattle.std.specs.Prelude.{◌≡◌, ◌++◌, true, OnOk, IfOk};
+ghost use Rattle.std.specs.Prelude.{◌≡◌, ◌++◌, OnOk, IfOk, IsOk};
 ghost use Rattle.lara_key.specs.Keys.{tuple_cmp};
-ghost use Rattle.lara_data.specs.TableTypes.{types, are_columns};
+ghost use Rattle.lara_data.specs.TableTypes.{types};
 ghost use Rattle.lara_data.specs.KeyedTables.{SameAt};
-ghost use Rattle.lara_data.specs.Algebra.{heading, shares, union_columns, union_tables};
+ghost use Rattle.lara_data.specs.Algebra.{heading, shares, union_tables};
+ghost use Rattle.lara_data.specs.TypeRules.{union_type};
 
 use crate::assoc::Assoc;
 use crate::keys::{picked, places};
@@ -27,9 +28,10 @@ fn add_shares(alloc: Global, a: &Assoc, ty: &TableType, sums: &mut Sums) -> Resu
     Ok(())
 }
 
-/// The table of the entries of both: common key columns, and all value columns.
+/// The table of the entries of both: common key columns, and all value columns. A union of these tables is to have a
+/// type.
 pub fn union(alloc: Global, a: &Assoc, b: &Assoc) -> Result<Assoc, AllocError>
-    requires { are_columns (union_columns a.now.ty b.now.ty).keys (union_columns a.now.ty b.now.ty).vals ≡ true }
+    requires { IsOk (union_type a.now.ty b.now.ty) }
     ensures { IfOk result (λ r. r ≡ union_tables a.now b.now) }
 {
     let ty = union_columns(alloc, a.ty(), b.ty())?;

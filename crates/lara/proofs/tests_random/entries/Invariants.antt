@@ -1,8 +1,13 @@
 use Rattle.std.proofs.Common.{◌≡◌, ◌∷◌, [], true}
+use Rattle.lara_key.specs.Keys.{tuple_has}
+use Rattle.lara_key.specs.declared.key.KeyType.TheVariants.{Nat}
 use Rattle.lara_semiring.specs.declared.value.ValType.TheVariants.{Count}
-use Rattle.lara_data.specs.KeyedTables.{all_have}
+use Rattle.lara_data.specs.KeyedTables.{AllKeys, all_have}
 use Rattle.lara.proofs.tests_random.entries.Given as goal
 
--- the rows so far are counts
+-- the keys so far are of two numbers, and the rows counts
 abbrev pub invariant-loop-cell : goal.invariant-loop-cell
-invariant-loop-cell l = all_have (Count ∷ []) l.entries ≡ true
+invariant-loop-cell l = record {
+  keys : AllKeys (λ k. tuple_has (Nat ∷ Nat ∷ []) k ≡ true) l.entries;
+  rows : all_have (Count ∷ []) l.entries ≡ true;
+}

@@ -1,12 +1,8 @@
-use Rattle.lara_data.specs.TableTypes.{are_columns}
-use Rattle.lara_data.specs.Algebra.{agg_columns, key_cols, key_col}
-use Rattle.lara_data.specs.Names.{same_name}
+use Rattle.std.specs.Prelude.{is_ok}
+use Rattle.lara_data.specs.TypeRules.{agg_type}
+use Rattle.lara_data.specs.Names.{has, same_name, among, distinct}
 use Rattle.lara.proofs.tests_random.summed.Goals as goal
 
 pub agg-requires : goal.agg-requires
-unfolding are_columns key_cols key_col same_name
-agg-requires c =
-    λ i.
-    let s = c.in_ok-a.ensures i in
-    let ns = c.in_ok-keys.ensures i in
-    are_columns (agg_columns s ns).keys (agg_columns s ns).vals
+unfolding agg_type among distinct has same_name
+agg-requires c = λ i. is_ok (agg_type (c.in_ok-a.ensures i) (c.in_ok-keys.ensures i))

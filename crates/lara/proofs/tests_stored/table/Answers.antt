@@ -9,7 +9,7 @@ use Rattle.lara_semiring.specs.declared.value.Value.TheVariants as value
 use Rattle.lara_data.specs.KeyedTables.{all_have, AllKeys}
 use Rattle.lara_data.specs.TableTypes.{Columns, types, are_columns}
 use Rattle.lara_data.specs.Tables.{Entries, Table, table_of}
-use Rattle.lara_data.specs.TypedTables.{IsTypedTable, IsTypedTable-table_of}
+use Rattle.lara_data.specs.TypedTables.{KeyHas, IsTypedTable, IsTypedTable-table_of}
 use Rattle.lara.proofs.tests_stored.table.Goals as goal
 
 -- the key column k and the value column v
@@ -28,9 +28,12 @@ columns_are : are_columns columns.keys columns.vals ≡ true
 unfolding are_columns
 columns_are = refl
 
-table_typed : IsTypedTable (table_of columns entries)
+keys_typed : AllKeys (KeyHas columns.keys) entries
 unfolding AllKeys tuple_has has_key_type
-table_typed = IsTypedTable-table_of columns entries columns_are rows_typed (refl, tt)
+keys_typed = (refl, tt)
+
+table_typed : IsTypedTable (table_of columns entries)
+table_typed = IsTypedTable-table_of columns entries columns_are rows_typed keys_typed
 
 has_columns : {E : Type 0} (r : Result Table E) (ty : Columns) (es : Entries) → IfOk r (λ a. a ≡ table_of ty es) → ty ≡ columns → IfOk r (λ t. t.ty ≡ columns)
 unfolding table_of
@@ -41,8 +44,11 @@ is_typed : {E : Type 0} (r : Result Table E) (ty : Columns) (es : Entries) → I
 is_typed (Ok t) ty es is e f = subst IsTypedTable (sym (is ∙ ap (λ (u : Columns). table_of u es) e ∙ ap (table_of columns) f)) table_typed
 is_typed (Err x) ty es is e f = tt
 
-pub total-requires : goal.total-requires
-total-requires c = rw (c.in_ok-ty.ensures, c.in_ok-entries.ensures) rows_typed
+pub total-requires-clause-keys : goal.total-requires-clause-keys
+total-requires-clause-keys c = rw (c.in_ok-ty.ensures, c.in_ok-entries.ensures) keys_typed
+
+pub total-requires-clause-rows : goal.total-requires-clause-rows
+total-requires-clause-rows c = rw (c.in_ok-ty.ensures, c.in_ok-entries.ensures) rows_typed
 
 pub returns-clause-columns : goal.returns-clause-columns
 returns-clause-columns c = has_columns c.total.result _ _ c.total.ensures.table c.in_ok-ty.ensures

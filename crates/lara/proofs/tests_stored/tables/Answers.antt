@@ -16,5 +16,5 @@ is_one : (ts old : List NamedTable) (name : List ℕ) (table : Table) → ts ≡
 unfolding TablesOf
 is_one ts old name table is none named columns typed = rw (is, none) (named, record { columns = columns; typed = typed }, tt)
 
-pub returns-clause-is : goal.returns-clause-is
-returns-clause-is c = is_one _ _ _ _ c.in_ok-push.ensures.ok c.new-tables.ensures c.in_ok-name.ensures c.in_ok-table.ensures.columns c.in_ok-table.ensures.typed
+pub returns : goal.returns
+returns c = is_one _ _ _ _ c.in_ok-push.ensures.ok c.new-tables.ensures c.in_ok-name.ensures c.in_ok-table.ensures.columns c.in_ok-table.ensures.typed

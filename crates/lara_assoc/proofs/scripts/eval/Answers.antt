@@ -14,7 +14,7 @@ run-requires-clause-can g c =
     let within = subst (λ (ss : List Statement). i < length ss) all c.loop-statement-test.true in
     let here = subst (λ (ss : List Statement). c.statement-item.result ≡ get_or ss i c.statement-item.result) all c.statement-item.is in
     let typed = subst (λ (ss : List Statement). ScriptTyped ss) c.script.view_is c.script.invariant in
-    can_run _ _ c.args.script.now i c.statement-item.result c.loop-statement.running c.requires.tables typed c.requires.fits within here c.loop-statement.invariant.run
+    can_run _ _ c.args.script.now i c.statement-item.result c.loop-statement.running c.are_typed.ensures typed c.requires.fits within here c.loop-statement.invariant.run
 
 pub loop-statement-preserved : goal.loop-statement-preserved
 loop-statement-preserved g c =

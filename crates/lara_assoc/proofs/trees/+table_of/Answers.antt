@@ -1,13 +1,17 @@
 use Rattle.std.proofs.Common.{arith, ap}
+use Rattle.std.specs.Prelude.{is_ok}
 use Rattle.lara_data.specs.declared.node.Node.{Node}
-use Rattle.lara_assoc.proofs.MeantFacts.{load_means, name_means, literal_means, literal_has, join_left, join_right, join_means, join_are, union_left, union_right, union_means, union_are, agg_below, agg_means, agg_are, agg_join_means, agg_join_are, no_map, no_filter, no_promote, no_rename, no_apply}
+use Rattle.lara_assoc.proofs.MeantFacts.{load_means, name_means, literal_means, literal_typed, join_left, join_right, join_means, join_typed, union_left, union_right, union_means, union_typed, agg_below, agg_means, agg_typed, agg_join_means, agg_join_typed, no_map, no_filter, no_promote, no_rename, no_apply}
 use Rattle.lara_assoc.proofs.TableFacts.{ok_is}
 use Rattle.lara_data.specs.TreeSizes.{nodes}
 use Rattle.lara_data.proofs.SizeEquations.{nodes_Join, nodes_Union, nodes_Agg}
 use Rattle.lara_assoc.proofs.trees.+table_of.Goals as goal
 
-pub total-requires : goal.total-requires
-total-requires g t c = literal_has _ _ c.requires.tables c.args.node.now c.in-Literal.entries c.in-Literal.is c.requires.meant
+pub total-requires-clause-keys : goal.total-requires-clause-keys
+total-requires-clause-keys g t c = (literal_typed _ _ c.requires.tables c.args.node.now c.in-Literal.entries c.in-Literal.is c.requires.meant).keys
+
+pub total-requires-clause-rows : goal.total-requires-clause-rows
+total-requires-clause-rows g t c = (literal_typed _ _ c.requires.tables c.args.node.now c.in-Literal.entries c.in-Literal.is c.requires.meant).rows
 
 pub table_of-requires : goal.table_of-requires
 table_of-requires g t c =
@@ -25,8 +29,8 @@ table_of-requires-in-Join g t c =
 
 pub join-requires : goal.join-requires
 join-requires g t c =
-    join_are _ _ c.requires.tables c.args.node.now c.in-Join.a c.in-Join.b _ _ c.in_ok-left-in-Join.left c.in_ok-right-in-Join.right c.in-Join.is c.get.ensures c.get-in-Join.ensures c.requires.meant
-    (c.in_ok-left-in-Join.ensures c.requires.tables c.requires.newest) (c.in_ok-right-in-Join.ensures c.requires.tables c.requires.newest)
+    ap is_ok (join_typed _ _ c.requires.tables c.args.node.now c.in-Join.a c.in-Join.b _ _ c.in_ok-left-in-Join.left c.in_ok-right-in-Join.right c.in-Join.is c.get.ensures c.get-in-Join.ensures c.requires.meant
+    (c.in_ok-left-in-Join.ensures c.requires.tables c.requires.newest) (c.in_ok-right-in-Join.ensures c.requires.tables c.requires.newest))
 
 pub table_of-requires-in-Union : goal.table_of-requires-in-Union
 table_of-requires-in-Union g t c =
@@ -44,8 +48,8 @@ table_of-requires-in-Union-2 g t c =
 
 pub union-requires : goal.union-requires
 union-requires g t c =
-    union_are _ _ c.requires.tables c.args.node.now c.in-Union.a c.in-Union.b _ _ c.in_ok-left-in-Union.left c.in_ok-right-in-Union.right c.in-Union.is c.get-in-Union.ensures c.get-in-Union-2.ensures c.requires.meant
-    (c.in_ok-left-in-Union.ensures c.requires.tables c.requires.newest) (c.in_ok-right-in-Union.ensures c.requires.tables c.requires.newest)
+    ap is_ok (union_typed _ _ c.requires.tables c.args.node.now c.in-Union.a c.in-Union.b _ _ c.in_ok-left-in-Union.left c.in_ok-right-in-Union.right c.in-Union.is c.get-in-Union.ensures c.get-in-Union-2.ensures c.requires.meant
+    (c.in_ok-left-in-Union.ensures c.requires.tables c.requires.newest) (c.in_ok-right-in-Union.ensures c.requires.tables c.requires.newest))
 
 pub table_of-requires-in-Join-op : goal.table_of-requires-in-Join-op
 table_of-requires-in-Join-op g t c =
@@ -71,14 +75,14 @@ table_of-requires-in-Join-op-2 g t c =
 
 pub agg_of_join-requires-clause-joined : goal.agg_of_join-requires-clause-joined
 agg_of_join-requires-clause-joined g t c =
-    join_are _ _ c.requires.tables _ c.in-Join-op.left c.in-Join-op.right _ _ c.in_ok-left-in-Agg.left c.in_ok-right-in-Agg.right c.in-Join-op.is c.get-in-Join-op.ensures c.get-in-Join-op-2.ensures
+    ap is_ok (join_typed _ _ c.requires.tables _ c.in-Join-op.left c.in-Join-op.right _ _ c.in_ok-left-in-Agg.left c.in_ok-right-in-Agg.right c.in-Join-op.is c.get-in-Join-op.ensures c.get-in-Join-op-2.ensures
     (agg_below _ _ c.requires.tables c.args.node.now c.in-Agg.a _ c.in-Agg.keys c.in-Agg.is c.get-in-Agg.ensures c.requires.meant) (c.in_ok-left-in-Agg.ensures c.requires.tables c.requires.newest)
-    (c.in_ok-right-in-Agg.ensures c.requires.tables c.requires.newest)
+    (c.in_ok-right-in-Agg.ensures c.requires.tables c.requires.newest))
 
 pub agg_of_join-requires-clause-summed : goal.agg_of_join-requires-clause-summed
 agg_of_join-requires-clause-summed g t c =
-    agg_join_are _ _ c.requires.tables c.args.node.now c.in-Agg.a _ c.in-Join-op.left c.in-Join-op.right _ _ c.in-Agg.keys c.in_ok-left-in-Agg.left c.in_ok-right-in-Agg.right c.in-Agg.is c.get-in-Agg.ensures
-    c.in-Join-op.is c.get-in-Join-op.ensures c.get-in-Join-op-2.ensures c.requires.meant (c.in_ok-left-in-Agg.ensures c.requires.tables c.requires.newest) (c.in_ok-right-in-Agg.ensures c.requires.tables c.requires.newest)
+    ap is_ok (agg_join_typed _ _ c.requires.tables c.args.node.now c.in-Agg.a _ c.in-Join-op.left c.in-Join-op.right _ _ c.in-Agg.keys c.in_ok-left-in-Agg.left c.in_ok-right-in-Agg.right c.in-Agg.is c.get-in-Agg.ensures
+    c.in-Join-op.is c.get-in-Join-op.ensures c.get-in-Join-op-2.ensures c.requires.meant (c.in_ok-left-in-Agg.ensures c.requires.tables c.requires.newest) (c.in_ok-right-in-Agg.ensures c.requires.tables c.requires.newest))
 
 pub returns-in-Join-op : goal.returns-in-Join-op
 returns-in-Join-op g t c =
@@ -94,7 +98,8 @@ table_of-requires-in-Agg g t c =
     (omega (arith, s, e, r), record { tables = c.requires.tables; newest = c.requires.newest; meant = agg_below _ _ c.requires.tables c.args.node.now c.in-Agg.a _ c.in-Agg.keys c.in-Agg.is c.get-in-Agg-2.ensures c.requires.meant })
 
 pub agg-requires : goal.agg-requires
-agg-requires g t c = agg_are _ _ c.requires.tables c.args.node.now c.in-Agg.a _ c.in-Agg.keys c.in_ok-table-in-Agg.table c.in-Agg.is c.get-in-Agg-2.ensures c.requires.meant (c.in_ok-table-in-Agg.ensures c.requires.tables c.requires.newest)
+agg-requires g t c =
+    ap is_ok (agg_typed _ _ c.requires.tables c.args.node.now c.in-Agg.a _ c.in-Agg.keys c.in_ok-table-in-Agg.table c.in-Agg.is c.get-in-Agg-2.ensures c.requires.meant (c.in_ok-table-in-Agg.ensures c.requires.tables c.requires.newest))
 
 pub returns-in-Load : goal.returns-in-Load
 returns-in-Load g t c = λ ts newest. ok_is c.copy_named.result _ _ (load_means _ _ ts c.args.node.now c.in-Load.name c.in-Load.is) c.copy_named.ensures

@@ -1,8 +1,0 @@
-use Rattle.std.proofs.Common.{◌≡◌, ◌∷◌, [], true}
-use Rattle.lara_semiring.specs.declared.value.ValType.TheVariants.{Count}
-use Rattle.lara_data.specs.KeyedTables.{all_have}
-use Rattle.lara_assoc.proofs.tests.singles.Given as goal
-
--- the rows so far are counts
-abbrev pub invariant-loop-key : goal.invariant-loop-key
-invariant-loop-key l = all_have (Count ∷ []) l.entries ≡ true
