@@ -1,5 +1,5 @@
 //! The typed tree of a tree with places.
-ghost use Rattle.std.specs.Prelude.{◌≡◌, None, Ok, IfOk, IfErr};
+ghost use Rattle.std.specs.Prelude.{◌≡◌, None, Ok, IfOk, IfErr, IsSome};
 ghost use Rattle.std.specs.Option.{option_copied};
 ghost use Rattle.lara_data.specs.declared.node.Node.{Node as NodeSpec};
 ghost use Rattle.lara_data.specs.Algebra.{agg_columns};
@@ -128,9 +128,10 @@ fn sum_of(alloc: Global, a: Node, keys: &List<AstName>) -> Result<Node, ReadFaul
     Ok(Node { ty, op })
 }
 
-// An agg.
+// An agg. Its rules are looked at before anything is made, so a broken one is never answered by want of memory.
 fn agg_of(alloc: Global, a: Node, keys: &List<AstName>) -> Result<Node, ReadFault>
-    ensures { Judges (λ n. n) (summed a keys.now) result }
+    ensures gives { Judges (λ n. n) (summed a keys.now) result }
+    ensures sure { IsSome (first_broken (agg_rules a.ty keys.now)) → IfErr result NotMemory }
 {
     match agg_refusal(&a.ty, keys.as_slice()) {
         Some(refusal) => Err(ReadFault::Refused(refusal)),
