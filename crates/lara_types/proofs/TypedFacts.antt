@@ -12,7 +12,8 @@ use Rattle.lara_data.specs.Names.{Name, same_name, has, among_itself}
 use Rattle.lara_data.specs.Plugins.{Plugins}
 use Rattle.lara_data.specs.TableTypes.{Columns, key_names, are_columns}
 use Rattle.lara_data.specs.TypedScripts.{is_order, PrintTyped, StoreTyped, StatementTyped, known_after, AllTyped, ScriptTyped}
-use Rattle.lara_data.specs.TypedTrees.{newer_type, type_named, OpTyped}
+use Rattle.lara_data.specs.Newest.{newer, newest}
+use Rattle.lara_data.specs.TypedTrees.{type_named, OpTyped}
 use Rattle.lara_data.proofs.TypedEquations.{typed_Load, typed_Named, typed_Literal, typed_Join, typed_Union, typed_Agg}
 use Rattle.lara_syntax.specs.declared.ast.Ast.{Ast}
 use Rattle.lara_syntax.specs.declared.ast.AstBy.{AstBy}
@@ -35,6 +36,10 @@ abbrev ColumnsIf : Option Columns → Type 0
 ColumnsIf None = Unit {0}
 ColumnsIf (Some ty) = are_columns ty.keys ty.vals ≡ true
 
+-- the type of a name, where a later one may have it
+abbrev newer_type : Name → Option Columns → Schema → Option Columns
+newer_type n found s = newer (λ s. s.name) (λ s. s.ty) n found s
+
 columns_from : (n : Name) (stored : List Schema) (found : Option Columns) → AllColumns stored → ColumnsIf found → ColumnsIf (fold (newer_type n) found stored)
 unfolding AllColumns
 columns_from n [] found h f = f
@@ -43,7 +48,7 @@ columns_from n (s ∷ stored) found h f =
 
 -- a stored name's columns are a table's
 columns_named : (n : Name) (stored : List Schema) (ty : Columns) → AllColumns stored → type_named n stored ≡ Some ty → are_columns ty.keys ty.vals ≡ true
-unfolding type_named
+unfolding newest
 columns_named n stored ty h e = subst ColumnsIf e (columns_from n stored None h tt)
 
 -- ---- trees

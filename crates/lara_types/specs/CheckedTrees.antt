@@ -74,6 +74,7 @@ checked_op ps stored known at (Union' _ (more_of-AstNode i a end_of-AstNode) _ (
 checked_op ps stored known at (Agg' _ (more_of-AstNode i a end_of-AstNode) ks) = do
   x ← checked_op ps stored known i a
   summed x ks
+-- no words yet
 checked_op ps stored known at (Map' _ (more_of-AstNode i a end_of-AstNode) defs) = refused at Unexpected
 checked_op ps stored known at (Filter' _ (more_of-AstNode i a end_of-AstNode) test) = refused at Unexpected
 checked_op ps stored known at (Promote' _ (more_of-AstNode i a end_of-AstNode) def) = refused at Unexpected

@@ -91,6 +91,7 @@ OpHas ps stored known (Union' _ (more_of-AstNode i a end_of-AstNode) _ (more_of-
     (x : Node) × (y : Node) × (node.op ≡ to.Union x y) × IsUnion x.ty y.ty node.ty × OpHas ps stored known a x × OpHas ps stored known b y
 OpHas ps stored known (Agg' _ (more_of-AstNode i a end_of-AstNode) ks) node =
     (x : Node) × (node.op ≡ to.Agg x (plain ks)) × IsAgg x.ty (plain ks) node.ty × OpHas ps stored known a x
+-- no words yet
 OpHas ps stored known (Map' _ (more_of-AstNode i a end_of-AstNode) defs) node = ⊥
 OpHas ps stored known (Filter' _ (more_of-AstNode i a end_of-AstNode) test) node = ⊥
 OpHas ps stored known (Promote' _ (more_of-AstNode i a end_of-AstNode) def) node = ⊥

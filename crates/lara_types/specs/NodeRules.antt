@@ -107,6 +107,7 @@ rules_of ps stored known at (Literal ty es) types = literal_rules at ty es
 rules_of ps stored known at (Join' _ x _ y) (a ∷ b ∷ []) = join_rules at a b
 rules_of ps stored known at (Union' _ x _ y) (a ∷ b ∷ []) = union_rules at a b
 rules_of ps stored known at (Agg' _ x ks) (a ∷ []) = agg_rules a ks
+-- no words yet
 rules_of ps stored known at op types = rule at Unexpected false ∷ []
 
 -- the order is one of the type's, where a type was found

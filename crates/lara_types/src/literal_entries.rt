@@ -189,12 +189,7 @@ fn keys_from(
 
 // The values behind those that are read.
 #[tactic(auto, using(crate::proofs::EntryValues::behind_rules), unfolding(crate::specs::LiteralValues::row_values))]
-fn vals_from(
-    alloc: Global,
-    done: Row,
-    cols: &[ValCol],
-    lits: &[AstLit],
-) -> Result<Row, AllocError>
+fn vals_from(alloc: Global, done: Row, cols: &[ValCol], lits: &[AstLit]) -> Result<Row, AllocError>
     ensures { IfOk result (λ r. r ≡ done ++ row_values cols.now lits.now) }
 {
     let [col, cols @ ..] = cols else {
@@ -212,8 +207,18 @@ fn vals_from(
 fn values_of(alloc: Global, ty: &TableType, entry: &AstEntry) -> Result<Entry, AllocError>
     ensures { IfOk result (λ e. e ≡ entry_value ty.now entry.now) }
 {
-    let key = keys_from(alloc, List::new(alloc), ty.keys.as_slice(), entry.key.as_slice())?;
-    let row = vals_from(alloc, List::new(alloc), ty.vals.as_slice(), entry.row.as_slice())?;
+    let key = keys_from(
+        alloc,
+        List::new(alloc),
+        ty.keys.as_slice(),
+        entry.key.as_slice(),
+    )?;
+    let row = vals_from(
+        alloc,
+        List::new(alloc),
+        ty.vals.as_slice(),
+        entry.row.as_slice(),
+    )?;
     Ok(Entry { key, row })
 }
 

@@ -76,7 +76,9 @@ fn statement_of(
     ensures { Judges (λ s. s) (checked_statement (handed ⟦<dyn Plugin as Plugin>⟧ plugins.now.items) stored.now known.now statement.now) result }
 {
     match statement {
-        AstStatement::Assign { name, node, .. } => assign(alloc, stored, known, plugins, name, node),
+        AstStatement::Assign { name, node, .. } => assign(
+            alloc, stored, known, plugins, name, node,
+        ),
         AstStatement::Print { name, by, .. } => print(alloc, known, name, by),
         AstStatement::Store { old, new, .. } => store(alloc, known, old, new),
     }

@@ -23,7 +23,7 @@ use lara_syntax::{AstEntry, AstName, AstNode, AstOp, AstType};
 use std::alloc::Global;
 
 // The newest type of a name.
-#[tactic(auto, unfolding(lara_data::specs::TypedTrees::type_named, lara_data::specs::Names::same_name))]
+#[tactic(auto, unfolding(lara_data::specs::Newest::newest, lara_data::specs::Names::same_name))]
 fn type_named<'a>(known: &'a List<Schema>, name: &Name) -> Option<&'a TableType>
     ensures { option_copied result ≡ type_named name.now known.now }
 {
@@ -168,7 +168,7 @@ pub fn node_of(
             let table = node_of(alloc, stored, known, plugins, a.get())?;
             agg_of(alloc, table, keys)
         }
-        // These have no words in the grammar yet.
+        // no words yet: these are in no script
         AstOp::Map(_, _) => Err(refused(node.at, Kind::Unexpected)),
         AstOp::Filter(_, _) => Err(refused(node.at, Kind::Unexpected)),
         AstOp::Promote(_, _) => Err(refused(node.at, Kind::Unexpected)),
