@@ -31,13 +31,13 @@ prints_text-reaches : (prints : List Printed) → Reaches at_input (prints_text 
 unfolding prints_text
 prints_text-reaches prints = reaches_then at_input (in_range prints) (λ ranged. Ok (texts ranged)) (ranged-reaches prints (first_over prints)) (λ ranged. tt)
 
-statements_of-reaches : (bytes : List ℕ) → Reaches at_input (statements_of bytes)
-statements_of-reaches bytes =
-    reaches_then at_input (tree_of bytes) (λ tree. at_step at_types (checked [] tree)) (at_step-reaches at_syntax (parsed bytes) (omega arith)) (λ tree. at_step-reaches at_types (checked [] tree) (omega arith))
+statements_of-reaches : (ps : Plugins) (bytes : List ℕ) → Reaches at_input (statements_of ps bytes)
+statements_of-reaches ps bytes =
+    reaches_then at_input (tree_of bytes) (λ tree. at_step at_types (checked ps [] tree)) (at_step-reaches at_syntax (parsed bytes) (omega arith)) (λ tree. at_step-reaches at_types (checked ps [] tree) (omega arith))
 
 script_ruling-reaches : (ps : Plugins) (bytes : List ℕ) → Reaches at_input (script_ruling ps bytes)
 unfolding script_ruling
-script_ruling-reaches ps bytes = reaches_then at_input (statements_of bytes) (λ statements. prints_text (denotation ps [] statements).prints) (statements_of-reaches bytes) (λ statements. prints_text-reaches (denotation ps [] statements).prints)
+script_ruling-reaches ps bytes = reaches_then at_input (statements_of ps bytes) (λ statements. prints_text (denotation ps [] statements).prints) (statements_of-reaches ps bytes) (λ statements. prints_text-reaches (denotation ps [] statements).prints)
 
 pub run_ruling-reaches : (ps : Plugins) (input : List ℕ) → Reaches at_input (run_ruling ps input)
 unfolding run_ruling

@@ -29,15 +29,15 @@ prints_text prints = do
   Ok (texts ranged)
 
 -- the typed script of the bytes, over no stored tables: that of their tree
-abbrev pub statements_of : List ℕ → Result (List Statement) Stop
-statements_of bytes = do
+abbrev pub statements_of : Plugins → List ℕ → Result (List Statement) Stop
+statements_of ps bytes = do
   tree ← tree_of bytes
-  at_step at_types (checked [] tree)
+  at_step at_types (checked ps [] tree)
 
 -- the ruling on the bytes of a script: the text of what its typed script prints over no stored tables
 unfoldable pub script_ruling : Plugins → List ℕ → Result (List ℕ) Stop
 script_ruling ps bytes = do
-  statements ← statements_of bytes
+  statements ← statements_of ps bytes
   prints_text (denotation ps [] statements).prints
 
 -- the ruling on an input, which is a script within the limit

@@ -44,7 +44,7 @@ fn read_tree(alloc: Global, script: &[u8]) -> Result<Ast, Outcome>
 
 // The typed script of a tree, over no stored tables.
 fn read_types(alloc: Global, tree: &Ast, plugins: &Vec<Box<dyn Plugin>>) -> Result<Script, Outcome>
-    ensures gives { Gives (λ statements. statements) no_fault (at_step at_types (checked [] tree.now)) result }
+    ensures gives { Gives (λ statements. statements) no_fault (at_step at_types (checked (handed ⟦<dyn Plugin as Plugin>⟧ plugins.now.items) [] tree.now)) result }
     ensures few { IfOk result (λ statements. length statements ≡ length tree.now.statements) }
     ensures fits { IfOk result (ScriptFits (handed ⟦<dyn Plugin as Plugin>⟧ plugins.now.items) []) }
     ensures stops { IfErr result StopsScript }
@@ -59,7 +59,7 @@ fn read_statements(
     plugins: &Vec<Box<dyn Plugin>>,
 ) -> Result<Script, Outcome>
     requires { length script.now ≤ 1048576 }
-    ensures gives { Gives (λ statements. statements) no_fault (statements_of script.now) result }
+    ensures gives { Gives (λ statements. statements) no_fault (statements_of (handed ⟦<dyn Plugin as Plugin>⟧ plugins.now.items) script.now) result }
     ensures few { IfOk result (λ statements. length statements ≤ 256) }
     ensures fits { IfOk result (ScriptFits (handed ⟦<dyn Plugin as Plugin>⟧ plugins.now.items) []) }
     ensures stops { IfErr result StopsScript }

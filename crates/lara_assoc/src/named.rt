@@ -74,7 +74,7 @@ impl Model for Answers {
 }
 
 /// The newest table of a name.
-#[tactic(auto, unfolding(lara_data::specs::Denotations::table_named, lara_data::specs::Names::same_name))]
+#[tactic(auto, unfolding(lara_data::specs::Newest::newest, lara_data::specs::Names::same_name))]
 pub fn table_named<'a>(tables: &'a List<NamedTable>, name: &Name) -> Option<&'a Assoc>
     ensures { option_copied result ≡ table_named name.now tables.now }
 {

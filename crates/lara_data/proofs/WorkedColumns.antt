@@ -12,7 +12,6 @@ use Rattle.lara_data.specs.declared.table_type.KeyCol.{KeyCol}
 use Rattle.lara_data.specs.declared.table_type.ValCol.{ValCol}
 use Rattle.lara_data.specs.TableTypes.{Columns}
 use Rattle.lara_data.specs.Names.{Name, same_name}
-use Rattle.lara_data.specs.Tables.{Table}
 use Rattle.lara_data.specs.Extensions.{each_columns, new_name, renamed_columns, renamed}
 
 i : Name

@@ -16,7 +16,8 @@ use Rattle.lara_data.specs.TableTypes.{Columns}
 use Rattle.lara_data.specs.Names.{Name, same_name}
 use Rattle.lara_data.specs.Tables.{Entries, Table, table_of}
 use Rattle.lara_data.specs.Plugins.{Plugins}
-use Rattle.lara_data.specs.Denotations.{Database, table_named, meaning, after_all, denotation}
+use Rattle.lara_data.specs.Denotations.{Database, meaning, after_all, denotation}
+use Rattle.lara_data.specs.Newest.{newest}
 use Rattle.lara_data.specs.Databases.{with_table, after_stores}
 
 i : Name
@@ -62,14 +63,14 @@ printed_and_stored : (ps : Plugins) →
       prints = record { statement = 2; name = T; order = i ∷ []; table = at_one 7 } ∷ record { statement = 5; name = A; order = i ∷ []; table = at_one 9 } ∷ [];
       stores = record { statement = 3; name = B; table = at_one 7 } ∷ [];
     }
-unfolding i v T A B ty_of three_and_four at_one script stored_before denotation after_all table_named meaning table_of total key_set key_put at_keys at before same_key tuple_cmp same_name value_zero value_plus value_is_zero row_zero row_plus row_is_zero
+unfolding i v T A B ty_of three_and_four at_one script stored_before denotation after_all newest meaning table_of total key_set key_put at_keys at before same_key tuple_cmp same_name value_zero value_plus value_is_zero row_zero row_plus row_is_zero
 printed_and_stored ps = refl
 
 -- a name that is assigned again has its newest table
 assigned_again : (ps : Plugins) →
     denotation ps [] (Assign T (record { ty = ty_of; op = Literal [] }) ∷ Assign T (record { ty = ty_of; op = Literal three_and_four }) ∷ Print T (i ∷ []) ∷ [])
     ≡ record { prints = record { statement = 3; name = T; order = i ∷ []; table = at_one 7 } ∷ []; stores = [] }
-unfolding i v T ty_of three_and_four at_one denotation after_all table_named meaning table_of total key_set key_put at_keys at before same_key tuple_cmp same_name value_zero value_plus value_is_zero row_zero row_plus row_is_zero
+unfolding i v T ty_of three_and_four at_one denotation after_all newest meaning table_of total key_set key_put at_keys at before same_key tuple_cmp same_name value_zero value_plus value_is_zero row_zero row_plus row_is_zero
 assigned_again ps = refl
 
 -- a new name goes to its place, and an old one keeps its own

@@ -6,7 +6,7 @@ use Rattle.std.specs.declared.cmp.Ordering.{Ordering}
 use Rattle.std.specs.Ordering.{is_eq, is_lt}
 use Rattle.lara_semiring.specs.Rows.{row_plus}
 use Rattle.lara_data.specs.declared.entry.Keyed.{Keyed}
-use Rattle.lara_data.specs.KeyedTables.{IsKeyOrder, Types, same_key, before, at, is_below, rises, AllKept, IsTable, AllKeys, total, with_keys}
+use Rattle.lara_data.specs.KeyedTables.{IsKeyOrder, Types, same_key, before, at, is_below, rises, IsTable, AllKeys, total, with_keys}
 use Rattle.lara_data.specs.KeyedLaws.{SameAt-total, IsTable-total}
 use Rattle.lara_data.specs.KeyedTotals.{total_by}
 use Rattle.lara_data.specs.Apart.{keys_total, kept_keys}

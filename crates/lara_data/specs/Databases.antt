@@ -4,10 +4,11 @@ use Rattle.std.proofs.Common.{refl, sym, ap, ◌∙◌}
 use Rattle.std.proofs.lemmas.Bool.{and_parts, and_from}
 use Rattle.lara_data.specs.ByteOrders.{bytes_cmp, byte_order}
 use Rattle.lara_data.specs.KeyedTables.{same_key, before}
-use Rattle.lara_data.specs.KeyedOrderLaws.{same_key_is, same_key_itself, before_trans, before_apart, after_apart, after_by}
+use Rattle.lara_data.specs.KeyedOrderLaws.{same_key_is, same_key_itself, before_trans, before_apart, after_by}
 use Rattle.lara_data.specs.Names.{Name, same_name, same_name_is, same_name_itself, has, distinct}
+use Rattle.lara_data.specs.Newest.{newer, newest}
 use Rattle.lara_data.specs.Tables.{Table}
-use Rattle.lara_data.specs.Denotations.{NamedTable, Database, Stored, newer_table, table_named}
+use Rattle.lara_data.specs.Denotations.{NamedTable, Database, Stored, table_named}
 
 -- the names of the stored tables
 abbrev pub names_of : Database → List Name
@@ -77,6 +78,10 @@ names_rise-distinct (d ∷ db) h =
     let both = and_parts (names_past d.name db) (names_rise db) h in
     and_from (not (has (names_of db) d.name)) (distinct (names_of db)) (ap not (past_absent d.name db both.0)) (names_rise-distinct db both.1)
 
+-- what a table's name has, where a later one may have it
+abbrev newer_table : Name → Option Table → NamedTable → Option Table
+newer_table n found d = newer (λ d. d.name) (λ d. d.table) n found d
+
 -- the table that a name has, found from the front, is kept past tables of other names
 absent_from : (n : Name) (db : Database) (found : Option Table) → has (names_of db) n ≡ false → fold (newer_table n) found db ≡ found
 unfolding has
@@ -123,7 +128,7 @@ with_from n m t (d ∷ db) found h =
 
 -- a stored name has the stored table, and every other name its table as before
 pub table_named-with_table : (n m : Name) (t : Table) (db : Database) → names_rise db ≡ true → table_named n (with_table m t db) ≡ cond (same_name n m) (Some t) (table_named n db)
-unfolding table_named
+unfolding newest
 table_named-with_table n m t db h = with_from n m t db None h
 
 -- names past n stay so with one more that is past it
@@ -169,7 +174,7 @@ names_rise-with_table m t (d ∷ db) h =
 
 -- the table of the last store under the name, or else the one before all stores
 abbrev pub newer_store : Name → Option Table → Stored → Option Table
-newer_store n found s = if same_name n s.name then Some s.table else found
+newer_store n found s = newer (λ s. s.name) (λ s. s.table) n found s
 
 pub table_named-after_stores : (n : Name) (db : Database) (stores : List Stored) → names_rise db ≡ true → table_named n (after_stores db stores) ≡ fold (newer_store n) (table_named n db) stores
 unfolding after_stores

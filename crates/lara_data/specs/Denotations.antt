@@ -1,5 +1,5 @@
 -- What a tree means, and what a script means: the tables that its names get, and what it prints and stores.
-use Rattle.std.specs.Prelude.{ℕ, ◌+◌, fold, List, [], ◌∷◌, ◌++◌, Option, Some, None, if◌then◌else◌}
+use Rattle.std.specs.Prelude.{ℕ, ◌+◌, fold, List, [], ◌∷◌, ◌++◌, Option, Some, None}
 use Rattle.lara_data.specs.declared.node.Node.{Node}
 use Rattle.lara_data.specs.declared.node.Op.{Op}
 use Rattle.lara_data.specs.declared.node.Op.TheBlock.{end_of-Node, more_of-Node}
@@ -8,7 +8,8 @@ use Rattle.lara_data.specs.declared.order.EachOp.TheVariants as each
 use Rattle.lara_data.specs.declared.script.Statement.{Statement}
 use Rattle.lara_data.specs.declared.script.Statement.TheVariants.{Assign, Print, Store}
 use Rattle.lara_data.specs.TableTypes.{Columns}
-use Rattle.lara_data.specs.Names.{Name, same_name}
+use Rattle.lara_data.specs.Names.{Name}
+use Rattle.lara_data.specs.Newest.{newest}
 use Rattle.lara_data.specs.Tables.{Table, table_of}
 use Rattle.lara_data.specs.Algebra.{join_tables, union_tables, agg_table}
 use Rattle.lara_data.specs.Plugins.{Plugins}
@@ -23,13 +24,9 @@ pub record NamedTable : Type 0 where
 abbrev pub Database : Type 0
 Database = List NamedTable
 
--- the table of the later one where it has the name, else what was found before
-abbrev pub newer_table : Name → Option Table → NamedTable → Option Table
-newer_table n found d = if same_name n d.name then Some d.table else found
-
 -- the newest table of a name
-unfoldable pub table_named : Name → List NamedTable → Option Table
-table_named n tables = fold (newer_table n) None tables
+abbrev pub table_named : Name → List NamedTable → Option Table
+table_named n tables = newest (λ d. d.name) (λ d. d.table) n tables
 
 -- the table; where a name has none, which no typed script that fits its database meets, the empty one
 abbrev pub table_or_empty : Columns → Option Table → Table

@@ -1,14 +1,11 @@
--- Lists of distinct names, and names that stand first.
-use Rattle.std.specs.Prelude.{◌≡◌, ℕ, ◌≤◌, ◌+◌, Bool, true, false, cond, ◌&&◌, ◌||◌, not, List, [], ◌∷◌, ◌++◌, filter, length, take, drop}
+-- Lists of distinct names.
+use Rattle.std.specs.Prelude.{◌≡◌, ◌≤◌, ◌+◌, Bool, true, false, cond, ◌&&◌, ◌||◌, not, List, [], ◌∷◌, ◌++◌, filter, length}
 use Rattle.std.proofs.Common.{refl, sym, ap, ◌∙◌, subst, arith, suc}
-use Rattle.std.proofs.lemmas.Bool.{and_from, and_parts}
+use Rattle.std.proofs.lemmas.Bool.{and_from, and_parts, or_parts}
 use Rattle.std.proofs.Math.Bool.{and-false}
-use Rattle.std.proofs.lemmas.List.{take-append-drop}
 use Rattle.std.proofs.lemmas.List.Sums.{length-filter, count_by-le-length}
-use Rattle.lara_data.specs.Names.{Name, same_name, same_name_is, same_name_itself, has, has_head, has_tail, has_append, has_among, among, among_by, begins, distinct, common, others, other_name, not_true}
-use Rattle.lara_data.specs.Algebra.{Heading}
-use Rattle.lara_data.specs.Sequences.{SameNames, SameNames-by, SameNames-common, same_has, has_filter}
-use Rattle.lara_data.specs.FirstColumns.{StandFirst}
+use Rattle.lara_data.specs.Names.{Name, same_name, same_name_is, same_name_itself, has, has_head, has_tail, has_append, has_among, among, among_by, distinct, others, other_name, not_true}
+use Rattle.lara_data.specs.Sequences.{SameNames, has_filter}
 
 -- ---- distinct columns
 
@@ -28,6 +25,31 @@ distinct_append (n ∷ ns) ms d e h =
     let f = not_true (has ns n) (and_parts (not (has ns n)) (distinct ns) d).0 in
     let out : has (ns ++ ms) n ≡ false = has_append ns ms n ∙ (λ i. f i || h n (has_head n ns) i) in
     and_from _ _ (ap not out) (distinct_append ns ms (and_parts (not (has ns n)) (distinct ns) d).1 e (λ m k. h m (has_tail m n ns k)))
+
+-- of distinct names, those in front are distinct, those behind too, and no name stands in front and behind
+pub distinct_left : (ns ms : List Name) → distinct (ns ++ ms) ≡ true → distinct ns ≡ true
+unfolding distinct
+distinct_left [] ms d = refl
+distinct_left (n ∷ ns) ms d =
+    let parts = and_parts (not (has (ns ++ ms) n)) (distinct (ns ++ ms)) d in
+    let f = or_parts (has ns n) (has ms n) (sym (has_append ns ms n) ∙ not_true (has (ns ++ ms) n) parts.0) in
+    and_from (not (has ns n)) (distinct ns) (ap not f.0) (distinct_left ns ms parts.1)
+
+pub distinct_right : (ns ms : List Name) → distinct (ns ++ ms) ≡ true → distinct ms ≡ true
+unfolding distinct
+distinct_right [] ms d = d
+distinct_right (n ∷ ns) ms d = distinct_right ns ms (and_parts (not (has (ns ++ ms) n)) (distinct (ns ++ ms)) d).1
+
+pub distinct_apart : (ns ms : List Name) (n : Name) → distinct (ns ++ ms) ≡ true → has ns n ≡ true → has ms n ≡ false
+unfolding distinct has
+distinct_apart [] ms n d h = cc
+distinct_apart (m ∷ ns) ms n d h =
+    let parts = and_parts (not (has (ns ++ ms) m)) (distinct (ns ++ ms)) d in
+    let f = or_parts (has ns m) (has ms m) (sym (has_append ns ms m) ∙ not_true (has (ns ++ ms) m) parts.0) in
+    elim (same_name n m) as (λ b. same_name n m ≡ b → (b || has ns n) ≡ true → has ms n ≡ false) [
+      | true ↦ λ s e. ap (has ms) (same_name_is n m s) ∙ f.1
+      | false ↦ λ s e. distinct_apart ns ms n parts.1 e
+    ] refl h
 
 -- distinct names, and behind them those of other distinct names that are not among them, are distinct
 pub distinct_others : (ns ms : List Name) → distinct ns ≡ true → distinct ms ≡ true → distinct (ns ++ others ns ms) ≡ true
@@ -80,28 +102,3 @@ same_length ns ms d e s =
     let one = at_least ns ms d s.from in
     let two = at_least ms ns e s.to in
     omega (arith, one, two)
-
--- ---- columns that stand first
-
-pub begins_with : (order ns : List Name) → begins order ns ≡ true → order ≡ ns ++ drop (length ns) order
-unfolding begins
-begins_with order [] h = refl
-begins_with [] (n ∷ ns) h = cc
-begins_with (m ∷ order) (n ∷ ns) h =
-    let s = same_name_is m n (and_parts (same_name m n) (begins order ns) h).0 in
-    let r = begins_with order ns (and_parts (same_name m n) (begins order ns) h).1 in
-    λ i. s i ∷ r i
-
-pub first_columns : (order : List Name) (n : ℕ) → order ≡ take n order ++ drop n order
-first_columns order n = sym (take-append-drop n order)
-
--- where the common key names of a and b begin the keys of a' and b' in one sequence, they stand first in both
-pub stand_first : (a b a' b' : Heading) (n : ℕ) (q : List Name) → SameNames a.keys a'.keys → SameNames b.keys b'.keys → SameNames (take n a'.keys) (common a.keys b.keys) → b'.keys ≡ take n a'.keys ++ q → distinct a'.keys ≡ true → distinct b'.keys ≡ true →
-    StandFirst (take n a'.keys) a' b' (drop n a'.keys) q
-stand_first a b a' b' n q sa sb sc e da db = record {
-  left_keys = first_columns a'.keys n;
-  right_keys = e;
-  are_common = SameNames-by (common a'.keys b'.keys) (take n a'.keys) (λ m. sym (same_has (SameNames-common sa sb) m) ∙ sym (same_has sc m));
-  left_distinct = da;
-  right_distinct = db;
-}

@@ -5,7 +5,7 @@ use Rattle.std.proofs.lemmas.Bool.{and_parts, and_from}
 use Rattle.std.specs.declared.cmp.Ordering.{Ordering}
 use Rattle.lara_semiring.specs.Rows.{row_has, row_zero, row_plus, row_is_zero, row_plus_has, row_zero_has}
 use Rattle.lara_data.specs.declared.entry.Keyed.{Keyed}
-use Rattle.lara_data.specs.KeyedTables.{all_have, IsKeyOrder, Types, Row, same_key, before, IsTable, total, IsTypedList}
+use Rattle.lara_data.specs.KeyedTables.{all_have, IsKeyOrder, Types, Row, same_key, before, total, IsTypedList}
 use Rattle.lara_data.specs.KeyedLaws.{IsTable-total}
 use Rattle.lara_data.specs.KeyedPuts.{put, keep, own, puts, total_puts}
 

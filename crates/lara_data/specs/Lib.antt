@@ -14,7 +14,6 @@ pub mod Denotations
 pub mod DistinctColumns
 pub mod DistinctNames
 pub mod Extensions
-pub mod FirstColumns
 pub mod Fits
 pub mod Headings
 pub mod Judgements
@@ -28,8 +27,8 @@ pub mod KeyedTypes
 pub mod MapTables
 pub mod MeaningLaws
 pub mod Names
+pub mod Newest
 pub mod OrderLaws
-pub mod OtherSequences
 pub mod Plugins
 pub mod RangeLaws
 pub mod ScriptLaws

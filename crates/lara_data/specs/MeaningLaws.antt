@@ -7,15 +7,16 @@ use Rattle.lara_data.specs.declared.node.Op.TheVariants.{Load, Named, Literal, J
 use Rattle.lara_data.specs.declared.schema.Schema.{Schema}
 use Rattle.lara_data.specs.TableTypes.{Columns, key_names}
 use Rattle.lara_data.specs.Names.{Name, same_name, among}
+use Rattle.lara_data.specs.Newest.{newer, newest}
 use Rattle.lara_data.specs.Tables.{Entries, Table, table_of}
 use Rattle.lara_data.specs.Algebra.{common_vals, join_columns, union_columns, agg_columns, join_tables, union_tables, agg_table}
 use Rattle.lara_data.specs.TypedTables.{IsTypedTable, IsTypedTable-join, IsTypedTable-union, IsTypedTable-agg, IsTypedTable-table_of}
 use Rattle.lara_data.specs.TypeRules.{types_differ, is_none, too_many}
 use Rattle.lara_data.specs.TypeRuleLaws.{IsJoin, IsUnion, IsAgg, join_type_rules, union_type_rules, agg_type_rules, join_are_columns, union_are_columns, agg_are_columns}
 use Rattle.lara_data.specs.KeyTypeLaws.{same_key_types}
-use Rattle.lara_data.specs.TypedTrees.{newer_type, type_named, IsLiteral, OpTyped}
+use Rattle.lara_data.specs.TypedTrees.{type_named, IsLiteral, OpTyped}
 use Rattle.lara_data.specs.Plugins.{Plugins}
-use Rattle.lara_data.specs.Denotations.{NamedTable, Database, newer_table, table_named, table_or_empty, meaning}
+use Rattle.lara_data.specs.Denotations.{NamedTable, Database, table_named, table_or_empty, meaning}
 use Rattle.lara_data.specs.Fits.{IsTableOf, TablesTyped, LoadFits, OpFits, TablesOf, KnownHaveTables}
 
 -- ---- operators
@@ -62,6 +63,13 @@ Finds None (Some t) = ⊥
 Finds (Some ty) None = ⊥
 Finds (Some ty) (Some t) = IsTableOf ty t
 
+-- the type and the table of a name, where a later one may have it
+abbrev newer_type : Name → Option Columns → Schema → Option Columns
+newer_type n found s = newer (λ s. s.name) (λ s. s.ty) n found s
+
+abbrev newer_table : Name → Option Table → NamedTable → Option Table
+newer_table n found d = newer (λ d. d.name) (λ d. d.table) n found d
+
 finds_newer : (n m k : Name) (ty : Columns) (t : Table) (found : Option Columns) (table : Option Table) → k ≡ m → IsTableOf ty t → Finds found table → Finds (cond (same_name n m) (Some ty) found) (cond (same_name n k) (Some t) table)
 finds_newer n m k ty t found table e h f =
     subst (λ (x : Name). Finds (cond (same_name n m) (Some ty) found) (cond (same_name n x) (Some t) table)) (sym e)
@@ -77,7 +85,7 @@ finds_from n (s ∷ ss) (d ∷ ds) found table h f =
 
 -- a name of a known type has a table of the type
 pub finds_named : (n : Name) (known : List Schema) (tables : List NamedTable) → TablesOf known tables → Finds (type_named n known) (table_named n tables)
-unfolding type_named table_named
+unfolding newest
 finds_named n known tables h = finds_from n known tables None None h tt
 
 pub TablesOf-more : (known : List Schema) (tables : List NamedTable) (s : Schema) (d : NamedTable) → TablesOf known tables → d.name ≡ s.name → IsTableOf s.ty d.table → TablesOf (known ++ s ∷ []) (tables ++ d ∷ [])
@@ -109,7 +117,7 @@ typed_from n (d ∷ db) found h f =
     typed_from n db (newer_table n found d) h.1 (elim (same_name n d.name) as (λ b. TypedIf (cond b (Some d.table) found)) [ true ↦ h.0 | false ↦ f ])
 
 typed_named : (n : Name) (db : Database) → TablesTyped db → TypedIf (table_named n db)
-unfolding table_named
+unfolding newest
 typed_named n db h = typed_from n db None h tt
 
 of_stored : (ty : Columns) (found : Option Table) → LoadFits found ty → TypedIf found → IsTableOf ty (table_or_empty ty found)

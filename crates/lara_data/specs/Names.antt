@@ -69,12 +69,6 @@ others ns ms = filter (λ n. not (has ns n)) ms
 unfoldable pub same_val : KeyVal → KeyVal → Bool
 same_val a b = same_key key_cmp a b
 
--- the names ns stand first in the order
-unfoldable pub begins : List Name → List Name → Bool
-begins order [] = true
-begins [] (n ∷ ns) = false
-begins (m ∷ order) (n ∷ ns) = same_name m n && begins order ns
-
 -- ---- laws
 
 pub same_name_is : (a b : Name) → same_name a b ≡ true → a ≡ b

@@ -1,11 +1,11 @@
 -- An order of distinct key columns is a permutation of them.
-use Rattle.std.specs.Prelude.{◌≡◌, ℕ, ◌+◌, Bool, true, false, cond, ◌&&◌, ◌||◌, ◌==◌, not, List, [], ◌∷◌, ◌++◌, length}
-use Rattle.std.proofs.Common.{refl, sym, ap, ◌∙◌, subst, arith, length-append}
+use Rattle.std.specs.Prelude.{◌≡◌, ◌+◌, true, false, ◌&&◌, ◌||◌, ◌==◌, not, List, [], ◌∷◌, ◌++◌, length}
+use Rattle.std.proofs.Common.{refl, sym, ap, subst, arith, length-append}
 use Rattle.std.specs.List.{list_all}
 use Rattle.std.specs.List.Sorted.{IsPermutation}
 use Rattle.std.proofs.lemmas.Bool.{and_parts, eqb-true}
 use Rattle.std.proofs.lemmas.List.Sorted.{IsPermutation-refl, IsPermutation-cons, IsPermutation-trans, IsPermutation-sym, IsPermutation-middle}
-use Rattle.lara_data.specs.Names.{Name, same_name, same_name_is, same_name_itself, has, has_append, distinct, not_true, or_by}
+use Rattle.lara_data.specs.Names.{Name, same_name, same_name_is, same_name_itself, has, distinct, not_true, or_by}
 use Rattle.lara_data.specs.TypedScripts.{is_order}
 
 -- a name that is among others stands somewhere

@@ -1,5 +1,5 @@
 -- What it says that a table is in range: of each key column and of each row.
-use Rattle.std.specs.Prelude.{◌≡◌, Bool, true, false, ◌&&◌, ◌||◌, not, List, [], ◌∷◌}
+use Rattle.std.specs.Prelude.{◌≡◌, true, false, ◌||◌, not, List, [], ◌∷◌}
 use Rattle.std.proofs.Common.{refl, ap}
 use Rattle.std.specs.List.{All, list_all, list_any}
 use Rattle.std.proofs.lemmas.Bool.{and_parts, and_from, or_parts}

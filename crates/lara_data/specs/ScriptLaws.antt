@@ -1,15 +1,13 @@
 -- Scripts statement by statement: what stays typed, what fits, and which tables stand for the names.
-use Rattle.std.specs.Prelude.{◌≡◌, ℕ, ◌<◌, true, false, cond, fold, not, ◌||◌, List, [], ◌∷◌, ◌++◌, length, take, map, Option, Some, None, if◌then◌else◌}
-use Rattle.std.proofs.Common.{refl, sym, ap, ◌∙◌, subst, arith, get_or, zero, suc}
+use Rattle.std.specs.Prelude.{◌≡◌, ℕ, ◌<◌, fold, List, [], ◌∷◌, ◌++◌, length, take}
+use Rattle.std.proofs.Common.{refl, sym, subst, arith, get_or, zero, suc}
 use Rattle.lara_data.specs.declared.schema.Schema.{Schema}
 use Rattle.lara_data.specs.declared.script.Statement.{Statement}
 use Rattle.lara_data.specs.declared.script.Statement.TheVariants.{Assign, Print, Store}
-use Rattle.std.proofs.lemmas.Bool.{and_parts, and_from, or_parts}
-use Rattle.lara_data.specs.Names.{Name, same_name, same_name_is, same_name_itself, has, distinct, not_true}
-use Rattle.lara_data.specs.Tables.{Table}
+use Rattle.lara_data.specs.Names.{has}
 use Rattle.lara_data.specs.TypedScripts.{StatementTyped, known_after, all_known, AllTyped, ScriptTyped}
 use Rattle.lara_data.specs.Plugins.{Plugins}
-use Rattle.lara_data.specs.Denotations.{Database, newer_table, table_named, meaning, Running, after, before_all, after_all}
+use Rattle.lara_data.specs.Denotations.{Database, meaning, Running, after, before_all, after_all}
 use Rattle.lara_data.specs.Fits.{TablesTyped, TablesOf, StatementFits, ScriptFits, KnownHaveTables}
 use Rattle.lara_data.specs.MeaningLaws.{TablesOf-more, IsTableOf-meaning}
 

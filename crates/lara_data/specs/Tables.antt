@@ -7,7 +7,7 @@ use Rattle.lara_semiring.specs.declared.value.ValType.{ValType}
 use Rattle.lara_semiring.specs.Rows.{row_is_over}
 use Rattle.lara_key.specs.Keys.{key_is_over, tuple_cmp}
 use Rattle.lara_data.specs.declared.entry.Keyed.{Keyed}
-use Rattle.lara_data.specs.TableTypes.{Columns, types, key_names}
+use Rattle.lara_data.specs.TableTypes.{Columns, types}
 use Rattle.lara_data.specs.KeyedTables.{total, with_keys}
 use Rattle.lara_data.specs.KeyedTotals.{total_permutation}
 use Rattle.lara_data.specs.TupleOrders.{tuple_order}

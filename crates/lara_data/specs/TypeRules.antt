@@ -1,12 +1,14 @@
 -- The types of operators: the rules in their order, and the columns where all are met.
-use Rattle.std.specs.Prelude.{Bool, true, ◌&&◌, ◌||◌, not, nat_lt, if◌then◌else◌, List, length, Result, Ok, Err}
+use Rattle.std.specs.Prelude.{Bool, false, ◌&&◌, ◌||◌, not, nat_lt, if◌then◌else◌, List, ◌++◌, map, length, Result, Ok, Err}
 use Rattle.std.specs.List.{list_any}
 use Rattle.lara_key.specs.Keys.{same_key_type}
 use Rattle.lara_data.specs.declared.refusal.Kind.{Kind}
 use Rattle.lara_data.specs.declared.refusal.Kind.TheVariants.{NameTwice, TooManyColumns, TypesDiffer, NoCommonValue, NotAKey}
+use Rattle.lara_data.specs.declared.table_type.ColumnKind.{ColumnKind}
+use Rattle.lara_data.specs.declared.table_type.ColumnKind.TheVariants.{Key, Val}
 use Rattle.lara_data.specs.declared.table_type.KeyCol.{KeyCol}
 use Rattle.lara_data.specs.declared.table_type.ValCol.{ValCol}
-use Rattle.lara_data.specs.TableTypes.{Columns, key_names, has_key, has_val, most_columns}
+use Rattle.lara_data.specs.TableTypes.{Columns, key_names, most_columns}
 use Rattle.lara_data.specs.Names.{Name, same_name, among, distinct}
 use Rattle.lara_semiring.specs.Values.{same_val_type}
 use Rattle.lara_data.specs.Vals.{Vals}
@@ -16,25 +18,40 @@ use Rattle.lara_data.specs.Algebra.{common_vals, join_columns, union_columns, ag
 abbrev pub Typing : Type 0
 Typing = Result Columns Kind
 
--- the key columns have one name and two types
-abbrev pub is_other_key : KeyCol → KeyCol → Bool
-is_other_key k l = same_name k.name l.name && not (same_key_type k.ty l.ty)
+-- a column: its name, and what it is
+pub record Column : Type 0 where
+  pub name : Name
+  pub kind : ColumnKind
 
--- the value columns have one name and two types
-abbrev pub is_other_val : ValCol → ValCol → Bool
-is_other_val v w = same_name v.name w.name && not (same_val_type v.ty w.ty)
+-- a key column
+abbrev pub key_column : KeyCol → Column
+key_column k = record { name = k.name; kind = Key k.ty }
 
--- the other side has the key column's name with another type, or as a value column
-unfoldable pub key_differs : Columns → KeyCol → Bool
-key_differs b k = list_any (is_other_key k) b.keys || has_val k.name b.vals
+-- a value column
+abbrev pub val_column : ValCol → Column
+val_column v = record { name = v.name; kind = Val v.ty }
 
--- the other side has the value column's name with another type, or as a key column
-unfoldable pub val_differs : Columns → ValCol → Bool
-val_differs b v = list_any (is_other_val v) b.vals || has_key v.name b.keys
+-- the columns of a type, keys first
+abbrev pub all_columns : Columns → List Column
+all_columns c = map key_column c.keys ++ map val_column c.vals
 
--- a name stands for a column of one kind on one side and of another on the other
+-- both are key columns, or both value columns, of one type
+abbrev pub same_kind : ColumnKind → ColumnKind → Bool
+same_kind (Key t) (Key u) = same_key_type t u
+same_kind (Val t) (Val u) = same_val_type t u
+same_kind x y = false
+
+-- the columns have one name and are not the same
+abbrev pub clash : Column → Column → Bool
+clash x y = same_name x.name y.name && not (same_kind x.kind y.kind)
+
+-- a column of the type has the name and is another
+abbrev pub clashes : Columns → Column → Bool
+clashes c x = list_any (clash x) (all_columns c)
+
+-- a name stands for one thing in one type and for another in the other
 unfoldable pub types_differ : Columns → Columns → Bool
-types_differ a b = list_any (key_differs b) a.keys || list_any (val_differs b) a.vals
+types_differ a b = list_any (clashes b) (all_columns a)
 
 -- there is no value column
 abbrev pub is_none : Vals → Bool

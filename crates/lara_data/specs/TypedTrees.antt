@@ -1,5 +1,5 @@
 -- Which trees are typed: every node has its type by the rules.
-use Rattle.std.specs.Prelude.{◌≡◌, true, fold, if◌then◌else◌, List, Option, Some, None, Ok}
+use Rattle.std.specs.Prelude.{◌≡◌, true, List, Option, Some, Ok}
 use Rattle.std.specs.List.{list_all}
 use Rattle.lara_data.specs.declared.node.Node.{Node}
 use Rattle.lara_data.specs.declared.node.Op.{Op}
@@ -7,19 +7,16 @@ use Rattle.lara_data.specs.declared.node.Op.TheBlock.{end_of-Node, more_of-Node}
 use Rattle.lara_data.specs.declared.node.Op.TheVariants.{Load, Named, Literal, Join', Union', Agg', Map', Filter', Promote', Rename', Apply'}
 use Rattle.lara_data.specs.declared.schema.Schema.{Schema}
 use Rattle.lara_data.specs.TableTypes.{Columns, types, are_columns}
-use Rattle.lara_data.specs.Names.{Name, same_name}
+use Rattle.lara_data.specs.Names.{Name}
+use Rattle.lara_data.specs.Newest.{newest}
 use Rattle.lara_data.specs.KeyedTables.{AllKeys, all_have}
 use Rattle.lara_data.specs.TypedTables.{KeyHas}
 use Rattle.lara_data.specs.Tables.{Entries, is_entry_in_range}
 use Rattle.lara_data.specs.TypeRules.{join_type, union_type, agg_type}
 
--- the type of the later one where it has the name, else what was found before
-abbrev pub newer_type : Name → Option Columns → Schema → Option Columns
-newer_type n found known = if same_name n known.name then Some known.ty else found
-
 -- the newest type of a name
-unfoldable pub type_named : Name → List Schema → Option Columns
-type_named n known = fold (newer_type n) None known
+abbrev pub type_named : Name → List Schema → Option Columns
+type_named n known = newest (λ s. s.name) (λ s. s.ty) n known
 
 -- columns of a type, and entries with one key value and one value of each column's type, none past its range
 pub record IsLiteral (ty : Columns) (es : Entries) : Type 0 where

@@ -20,8 +20,8 @@ mod table_type;
 
 pub use arg::{Arg, Call, Def, KeyDef, NamePair};
 pub use columns::{
-    all_keys, all_vals, common_keys, common_vals, is_key_name, key_cols, key_names, other_keys,
-    same_col, val_types,
+    all_keys, all_vals, common_keys, common_vals, key_cols, key_names, other_keys, same_col,
+    val_types,
 };
 pub use entry::{Cell, Entry, Keyed};
 pub use expr::{Expr, FunOp, TwoOp};
@@ -35,7 +35,7 @@ pub use refusal::{Kind, ReadFault, Refusal};
 pub use schema::Schema;
 pub use script::{Script, Statement};
 pub use shape::{ColPair, JoinShape, Shape};
-pub use table_type::{KeyCol, TableType, ValCol, has_key, has_val};
+pub use table_type::{ColumnKind, KeyCol, TableType, ValCol, is_key_name, is_val_name};
 
 #[cfg(test)]
 mod tests;

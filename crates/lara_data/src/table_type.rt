@@ -1,6 +1,9 @@
 //! The type of a table: its named columns.
 ghost use Rattle.std.specs.Prelude.{◌≡◌, ◌<◌, ◌+◌, length, IfOk, Some, None, Bool, true, false};
-ghost use Rattle.lara_data.specs.TableTypes.{has_key, has_val, are_vals_distinct, are_distinct, typed_columns};
+ghost use Rattle.std.specs.List.{list_any};
+ghost use Rattle.std.specs.Str.{bytes_eq};
+ghost use Rattle.lara_data.specs.Names.{has, distinct};
+ghost use Rattle.lara_data.specs.TableTypes.{key_names, val_names, column_names, typed_columns};
 
 use crate::limits::MAX_COLS;
 use lara_base::{Copied, List, Name};
@@ -21,6 +24,13 @@ pub struct KeyCol {
 pub struct ValCol {
     pub name: Name,
     pub ty: ValType,
+}
+
+/// What a column is: a key column or a value column, of which type.
+#[derive(Clone, Copy)]
+pub enum ColumnKind {
+    Key(KeyType),
+    Val(ValType),
 }
 
 /// At most `MAX_COLS` key columns and 1 to `MAX_COLS` value columns, all names distinct.
@@ -76,27 +86,42 @@ impl Copied for TableType {
     }
 }
 
-/// Whether a key column has the name.
-pub fn has_key(keys: &[KeyCol], name: &Name) -> bool
-    ensures { result ≡ has_key name.now keys.now }
+/// Whether the name is a key column's.
+#[tactic(auto, using(crate::proofs::ColumnNames::has_key_name))]
+pub fn is_key_name(keys: &[KeyCol], name: &Name) -> bool
+    ensures { result ≡ has (key_names keys.now) name.now }
 {
-    keys.iter().any(|k| k.name.same(name))
+    has_key(keys, name)
 }
 
-/// Whether a value column has the name.
-pub fn has_val(vals: &[ValCol], name: &Name) -> bool
-    ensures { result ≡ has_val name.now vals.now }
+/// Whether the name is a value column's.
+#[tactic(auto, using(crate::proofs::ColumnNames::has_val_name))]
+pub fn is_val_name(vals: &[ValCol], name: &Name) -> bool
+    ensures { result ≡ has (val_names vals.now) name.now }
 {
-    vals.iter().any(|v| v.name.same(name))
+    has_val(vals, name)
 }
 
+fn has_key(keys: &[KeyCol], name: &Name) -> bool
+    ensures { result ≡ list_any (λ k. bytes_eq name.now k.name) keys.now }
+{
+    keys.iter().any(|k| name.same(&k.name))
+}
+
+fn has_val(vals: &[ValCol], name: &Name) -> bool
+    ensures { result ≡ list_any (λ v. bytes_eq name.now v.name) vals.now }
+{
+    vals.iter().any(|v| name.same(&v.name))
+}
+
+#[tactic(auto, unfolding(crate::specs::Names::distinct))]
 fn are_vals_distinct(vals: &[ValCol]) -> bool
-    ensures { result ≡ are_vals_distinct vals.now }
+    ensures { result ≡ distinct (val_names vals.now) }
 {
     match vals {
         [] => true,
         [first, rest @ ..] => {
-            if has_val(rest, &first.name) {
+            if is_val_name(rest, &first.name) {
                 return false;
             }
             are_vals_distinct(rest)
@@ -104,16 +129,22 @@ fn are_vals_distinct(vals: &[ValCol]) -> bool
     }
 }
 
+// Whether the name is a column's.
+#[tactic(auto, using(crate::proofs::ColumnNames::has_column_name))]
+fn is_column_name(keys: &[KeyCol], vals: &[ValCol], name: &Name) -> bool
+    ensures { result ≡ has (column_names keys.now vals.now) name.now }
+{
+    is_key_name(keys, name) || is_val_name(vals, name)
+}
+
+#[tactic(auto, unfolding(crate::specs::Names::distinct))]
 fn are_distinct(keys: &[KeyCol], vals: &[ValCol]) -> bool
-    ensures { result ≡ are_distinct keys.now vals.now }
+    ensures { result ≡ distinct (column_names keys.now vals.now) }
 {
     match keys {
         [] => are_vals_distinct(vals),
         [first, rest @ ..] => {
-            if has_key(rest, &first.name) {
-                return false;
-            }
-            if has_val(vals, &first.name) {
+            if is_column_name(rest, vals, &first.name) {
                 return false;
             }
             are_distinct(rest, vals)

@@ -14,51 +14,52 @@ use Rattle.lara_syntax.specs.declared.ast_part.AstKeyDef.{AstKeyDef}
 use Rattle.lara_syntax.specs.declared.ast_part.AstPair.{AstPair}
 use Rattle.lara_types.specs.CheckedTrees.{loaded, assigned, literal, joined, united, summed, checked_op}
 use Rattle.lara_data.specs.Judgements.{refused}
+use Rattle.lara_data.specs.Plugins.{Plugins}
 use Rattle.lara_types.specs.Sizes.{written_nodes}
 use Rattle.lara_base.specs.Results.{◌>>=◌}
 
-module _ (stored known : List Schema) (at : ℕ) where
-  pub checked_Load : (n : AstName) → checked_op stored known at (Load n) ≡ loaded stored n
+module _ (ps : Plugins) (stored known : List Schema) (at : ℕ) where
+  pub checked_Load : (n : AstName) → checked_op ps stored known at (Load n) ≡ loaded stored n
   unfolding checked_op
   checked_Load n = refl
 
-  pub checked_Named : (n : AstName) → checked_op stored known at (Named n) ≡ assigned known n
+  pub checked_Named : (n : AstName) → checked_op ps stored known at (Named n) ≡ assigned known n
   unfolding checked_op
   checked_Named n = refl
 
-  pub checked_Literal : (ty : AstType) (es : List AstEntry) → checked_op stored known at (Literal ty es) ≡ literal at ty es
+  pub checked_Literal : (ty : AstType) (es : List AstEntry) → checked_op ps stored known at (Literal ty es) ≡ literal at ty es
   unfolding checked_op
   checked_Literal ty es = refl
 
-  pub checked_Join : (a b : AstNode) → checked_op stored known at (Join a b) ≡ (checked_op stored known a.at a.op >>= λ x. checked_op stored known b.at b.op >>= λ y. joined at x y)
+  pub checked_Join : (a b : AstNode) → checked_op ps stored known at (Join a b) ≡ (checked_op ps stored known a.at a.op >>= λ x. checked_op ps stored known b.at b.op >>= λ y. joined at x y)
   unfolding checked_op Rattle.lara_syntax.specs.declared.ast.AstOp.TheBlock.hidden-the_row-AstNode-0 denote.Hole.Carrier.hidden
   checked_Join a b = refl
 
-  pub checked_Union : (a b : AstNode) → checked_op stored known at (Union a b) ≡ (checked_op stored known a.at a.op >>= λ x. checked_op stored known b.at b.op >>= λ y. united at x y)
+  pub checked_Union : (a b : AstNode) → checked_op ps stored known at (Union a b) ≡ (checked_op ps stored known a.at a.op >>= λ x. checked_op ps stored known b.at b.op >>= λ y. united at x y)
   unfolding checked_op Rattle.lara_syntax.specs.declared.ast.AstOp.TheBlock.hidden-the_row-AstNode-0 denote.Hole.Carrier.hidden
   checked_Union a b = refl
 
-  pub checked_Agg : (a : AstNode) (ks : List AstName) → checked_op stored known at (Agg a ks) ≡ (checked_op stored known a.at a.op >>= λ x. summed x ks)
+  pub checked_Agg : (a : AstNode) (ks : List AstName) → checked_op ps stored known at (Agg a ks) ≡ (checked_op ps stored known a.at a.op >>= λ x. summed x ks)
   unfolding checked_op Rattle.lara_syntax.specs.declared.ast.AstOp.TheBlock.hidden-the_row-AstNode-0 denote.Hole.Carrier.hidden
   checked_Agg a ks = refl
 
-  pub checked_Map : (a : AstNode) (defs : List AstDef) → checked_op stored known at (Map a defs) ≡ refused at Unexpected
+  pub checked_Map : (a : AstNode) (defs : List AstDef) → checked_op ps stored known at (Map a defs) ≡ refused at Unexpected
   unfolding checked_op Rattle.lara_syntax.specs.declared.ast.AstOp.TheBlock.hidden-the_row-AstNode-0 denote.Hole.Carrier.hidden
   checked_Map a defs = refl
 
-  pub checked_Filter : (a : AstNode) (test : AstExpr) → checked_op stored known at (Filter a test) ≡ refused at Unexpected
+  pub checked_Filter : (a : AstNode) (test : AstExpr) → checked_op ps stored known at (Filter a test) ≡ refused at Unexpected
   unfolding checked_op Rattle.lara_syntax.specs.declared.ast.AstOp.TheBlock.hidden-the_row-AstNode-0 denote.Hole.Carrier.hidden
   checked_Filter a test = refl
 
-  pub checked_Promote : (a : AstNode) (def : AstKeyDef) → checked_op stored known at (Promote a def) ≡ refused at Unexpected
+  pub checked_Promote : (a : AstNode) (def : AstKeyDef) → checked_op ps stored known at (Promote a def) ≡ refused at Unexpected
   unfolding checked_op Rattle.lara_syntax.specs.declared.ast.AstOp.TheBlock.hidden-the_row-AstNode-0 denote.Hole.Carrier.hidden
   checked_Promote a def = refl
 
-  pub checked_Rename : (a : AstNode) (pairs : List AstPair) → checked_op stored known at (Rename a pairs) ≡ refused at Unexpected
+  pub checked_Rename : (a : AstNode) (pairs : List AstPair) → checked_op ps stored known at (Rename a pairs) ≡ refused at Unexpected
   unfolding checked_op Rattle.lara_syntax.specs.declared.ast.AstOp.TheBlock.hidden-the_row-AstNode-0 denote.Hole.Carrier.hidden
   checked_Rename a pairs = refl
 
-  pub checked_Apply : (a : AstNode) (call : AstCall) → checked_op stored known at (Apply a call) ≡ refused at Unexpected
+  pub checked_Apply : (a : AstNode) (call : AstCall) → checked_op ps stored known at (Apply a call) ≡ refused at Unexpected
   unfolding checked_op Rattle.lara_syntax.specs.declared.ast.AstOp.TheBlock.hidden-the_row-AstNode-0 denote.Hole.Carrier.hidden
   checked_Apply a call = refl
 

@@ -31,12 +31,12 @@ load_fits ty None (Some t) e f = absurd f
 load_fits ty (Some u) None e f = absurd f
 load_fits ty (Some u) (Some t) e f = let is : u ≡ ty = cc in f.columns ∙ is
 
-module _ (stored : List Schema) (ps : Plugins) (db : Database) (of_stored : TablesOf stored db) where
+module _ (ps : Plugins) (stored : List Schema) (db : Database) (of_stored : TablesOf stored db) where
   -- the operator fits, by what it is and what it is to fit
   fits_by : (op made : Op) (ty : Columns) (Fits : Type 0) → op ≡ made → OpFits ps db made ty ≡ Fits → Fits → OpFits ps db op ty
   fits_by op made ty Fits is e f = subst (λ (o : Op). OpFits ps db o ty) (sym is) (subst (λ (T : Type 0). T) (sym e) f)
 
-  op_fits : (known : List Schema) (tree : AstOp) (node : Node) → OpHas stored known tree node → OpFits ps db node.op node.ty
+  op_fits : (known : List Schema) (tree : AstOp) (node : Node) → OpHas ps stored known tree node → OpFits ps db node.op node.ty
   unfolding OpHas
   op_fits known (Load n) node h =
       fits_by node.op (to.Load n.name) node.ty _ h.0 (fits_Load ps db n.name node.ty) (load_fits node.ty (type_named n.name stored) (table_named n.name db) h.1 (finds_named n.name stored db of_stored))
@@ -54,12 +54,12 @@ module _ (stored : List Schema) (ps : Plugins) (db : Database) (of_stored : Tabl
   op_fits known (Rename' _ (more_of-AstNode i a end_of-AstNode) pairs) node h = absurd h
   op_fits known (Apply' _ (more_of-AstNode i a end_of-AstNode) call) node h = absurd h
 
-  statement_fits : (known : List Schema) (x : AstStatement) (s : Statement) → StatementHas stored known x s → StatementFits ps db s
+  statement_fits : (known : List Schema) (x : AstStatement) (s : Statement) → StatementHas ps stored known x s → StatementFits ps db s
   statement_fits known (ast.Assign at name tree) s h = subst (StatementFits ps db) (sym h.1) (op_fits known tree.op h.0 h.2)
   statement_fits known (ast.Print at name by) s h = subst (StatementFits ps db) (sym h.2) tt
   statement_fits known (ast.Store at old new) s h = subst (StatementFits ps db) (sym h.1) tt
 
-  all_fit : (known : List Schema) (xs : List AstStatement) (ss : List Statement) → StatementsHave stored known xs ss → ScriptFits ps db ss
+  all_fit : (known : List Schema) (xs : List AstStatement) (ss : List Statement) → StatementsHave ps stored known xs ss → ScriptFits ps db ss
   unfolding StatementsHave ScriptFits
   all_fit known [] [] h = tt
   all_fit known [] (s ∷ ss) h = absurd h
@@ -67,5 +67,5 @@ module _ (stored : List Schema) (ps : Plugins) (db : Database) (of_stored : Tabl
   all_fit known (x ∷ xs) (s ∷ ss) h = (statement_fits known x s h.0, all_fit (known_after known s) xs ss h.1)
 
 -- a typed script fits a database whose tables have the stored names and types
-pub has_fits : (stored : List Schema) (tree : Ast) (ss : List Statement) (ps : Plugins) (db : Database) → TablesOf stored db → HasTypes stored tree ss → ScriptFits ps db ss
-has_fits stored tree ss ps db t h = all_fit stored ps db t [] tree.statements ss h
+pub has_fits : (ps : Plugins) (stored : List Schema) (tree : Ast) (ss : List Statement) (db : Database) → TablesOf stored db → HasTypes ps stored tree ss → ScriptFits ps db ss
+has_fits ps stored tree ss db t h = all_fit ps stored db t [] tree.statements ss h

@@ -9,9 +9,11 @@ use Rattle.lara_data.specs.declared.node.Op.TheVariants as to
 use Rattle.lara_data.specs.declared.schema.Schema.{Schema}
 use Rattle.lara_data.specs.declared.script.Statement.{Statement}
 use Rattle.lara_data.specs.Names.{Name, same_name, has, among_itself}
+use Rattle.lara_data.specs.Plugins.{Plugins}
 use Rattle.lara_data.specs.TableTypes.{Columns, key_names, are_columns}
 use Rattle.lara_data.specs.TypedScripts.{is_order, PrintTyped, StoreTyped, StatementTyped, known_after, AllTyped, ScriptTyped}
-use Rattle.lara_data.specs.TypedTrees.{newer_type, type_named, OpTyped}
+use Rattle.lara_data.specs.Newest.{newer, newest}
+use Rattle.lara_data.specs.TypedTrees.{type_named, OpTyped}
 use Rattle.lara_data.proofs.TypedEquations.{typed_Load, typed_Named, typed_Literal, typed_Join, typed_Union, typed_Agg}
 use Rattle.lara_syntax.specs.declared.ast.Ast.{Ast}
 use Rattle.lara_syntax.specs.declared.ast.AstBy.{AstBy}
@@ -34,6 +36,10 @@ abbrev ColumnsIf : Option Columns → Type 0
 ColumnsIf None = Unit {0}
 ColumnsIf (Some ty) = are_columns ty.keys ty.vals ≡ true
 
+-- the type of a name, where a later one may have it
+abbrev newer_type : Name → Option Columns → Schema → Option Columns
+newer_type n found s = newer (λ s. s.name) (λ s. s.ty) n found s
+
 columns_from : (n : Name) (stored : List Schema) (found : Option Columns) → AllColumns stored → ColumnsIf found → ColumnsIf (fold (newer_type n) found stored)
 unfolding AllColumns
 columns_from n [] found h f = f
@@ -42,17 +48,17 @@ columns_from n (s ∷ stored) found h f =
 
 -- a stored name's columns are a table's
 columns_named : (n : Name) (stored : List Schema) (ty : Columns) → AllColumns stored → type_named n stored ≡ Some ty → are_columns ty.keys ty.vals ≡ true
-unfolding type_named
+unfolding newest
 columns_named n stored ty h e = subst ColumnsIf e (columns_from n stored None h tt)
 
 -- ---- trees
 
-module _ (stored : List Schema) (of_stored : AllColumns stored) (known : List Schema) where
+module _ (ps : Plugins) (stored : List Schema) (of_stored : AllColumns stored) (known : List Schema) where
   -- the operator is typed, by what it is and what it is to be typed
   typed_by : (op made : Op) (ty : Columns) (Typed : Type 0) → op ≡ made → OpTyped known made ty ≡ Typed → Typed → OpTyped known op ty
   typed_by op made ty Typed is e t = subst (λ (o : Op). OpTyped known o ty) (sym is) (subst (λ (T : Type 0). T) (sym e) t)
 
-  op_typed : (tree : AstOp) (node : Node) → OpHas stored known tree node → OpTyped known node.op node.ty
+  op_typed : (tree : AstOp) (node : Node) → OpHas ps stored known tree node → OpTyped known node.op node.ty
   unfolding OpHas
   op_typed (Load n) node h = typed_by node.op (to.Load n.name) node.ty _ h.0 (typed_Load known n.name node.ty) (columns_named n.name stored node.ty of_stored h.1)
   op_typed (Named n) node h = typed_by node.op (to.Named n.name) node.ty _ h.0 (typed_Named known n.name node.ty) h.1
@@ -81,14 +87,14 @@ order_typed : (ty : Columns) (by : Option AstBy) (order : List Name) → IsOrder
 order_typed ty None order h = ap (λ o. is_order o (key_names ty.keys)) h ∙ declared_order (key_names ty.keys)
 order_typed ty (Some by) order h = h.1
 
-module _ (stored : List Schema) (of_stored : AllColumns stored) where
-  statement_typed : (known : List Schema) (x : AstStatement) (s : Statement) → StatementHas stored known x s → StatementTyped known s
-  statement_typed known (ast.Assign at name tree) s h = subst (StatementTyped known) (sym h.1) (op_typed stored of_stored known tree.op h.0 h.2)
+module _ (ps : Plugins) (stored : List Schema) (of_stored : AllColumns stored) where
+  statement_typed : (known : List Schema) (x : AstStatement) (s : Statement) → StatementHas ps stored known x s → StatementTyped known s
+  statement_typed known (ast.Assign at name tree) s h = subst (StatementTyped known) (sym h.1) (op_typed ps stored of_stored known tree.op h.0 h.2)
   statement_typed known (ast.Print at name by) s h =
       subst (StatementTyped known) (sym h.2) (subst (λ (t : Option Columns). PrintTyped t h.1) (sym h.3) (order_typed h.0 by h.1 h.4))
   statement_typed known (ast.Store at old new) s h = subst (StatementTyped known) (sym h.1) (subst StoreTyped (sym h.2) tt)
 
-  all_are_typed : (known : List Schema) (xs : List AstStatement) (ss : List Statement) → StatementsHave stored known xs ss → AllTyped known ss
+  all_are_typed : (known : List Schema) (xs : List AstStatement) (ss : List Statement) → StatementsHave ps stored known xs ss → AllTyped known ss
   unfolding StatementsHave AllTyped
   all_are_typed known [] [] h = tt
   all_are_typed known [] (s ∷ ss) h = absurd h
@@ -96,5 +102,5 @@ module _ (stored : List Schema) (of_stored : AllColumns stored) where
   all_are_typed known (x ∷ xs) (s ∷ ss) h = (statement_typed known x s h.0, all_are_typed (known_after known s) xs ss h.1)
 
 -- the typed script that a tree stands for is typed, where the stored types have the columns of tables
-pub has_typed : (stored : List Schema) (tree : Ast) (ss : List Statement) → AllColumns stored → HasTypes stored tree ss → ScriptTyped ss
-has_typed stored tree ss c h = all_are_typed stored c [] tree.statements ss h
+pub has_typed : (ps : Plugins) (stored : List Schema) (tree : Ast) (ss : List Statement) → AllColumns stored → HasTypes ps stored tree ss → ScriptTyped ss
+has_typed ps stored tree ss c h = all_are_typed ps stored c [] tree.statements ss h

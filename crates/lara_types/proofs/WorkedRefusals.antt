@@ -12,9 +12,10 @@ use Rattle.lara_data.specs.declared.refusal.Refusal.{Refusal}
 use Rattle.lara_data.specs.declared.script.Statement.TheVariants.{Assign, Print}
 use Rattle.lara_data.specs.declared.table_type.KeyCol.{KeyCol}
 use Rattle.lara_data.specs.declared.table_type.ValCol.{ValCol}
-use Rattle.lara_data.specs.Names.{Name, same_name, has}
+use Rattle.lara_data.specs.Names.{Name, same_name, has, distinct}
+use Rattle.lara_data.specs.Plugins.{Plugins}
 use Rattle.lara_data.specs.TableTypes.{Columns, are_columns}
-use Rattle.lara_data.specs.TypeRules.{types_differ, key_differs, val_differs}
+use Rattle.lara_data.specs.TypeRules.{types_differ}
 use Rattle.lara_data.specs.TypedScripts.{is_order}
 use Rattle.lara_data.specs.TypedTrees.{type_named}
 use Rattle.lara_data.specs.Vals.{has_col, same_col}
@@ -37,6 +38,7 @@ use Rattle.lara_types.specs.Refused.{operands, NodesHave, NodeRefused, here, bel
 use Rattle.lara_types.specs.RefusedLaws.{script_refused}
 use Rattle.lara_types.specs.RuleLaws.{is_broken}
 use Rattle.lara_types.specs.Rules.{FirstBroken, first_broken}
+use Rattle.lara_data.specs.Newest.{newest}
 use Rattle.lara_types.specs.Walks.{walk}
 
 -- names of one letter
@@ -75,12 +77,12 @@ v_w = record { keys = key v ∷ []; vals = val w ∷ [] }
 
 -- v is a value on the left and a key on the right, and no value is common: the first is the refusal
 join_differs : FirstBroken (join_rules 7 ij_v v_w) (record { at = 7; kind = TypesDiffer })
-unfolding first_broken types_differ key_differs val_differs same_name has
+unfolding first_broken types_differ same_name has
 join_differs = is_broken (join_rules 7 ij_v v_w) (record { at = 7; kind = TypesDiffer }) refl
 
 -- no name stands for two kinds, and no value is common
 join_lacks : FirstBroken (join_rules 7 ij_v i_w) (record { at = 7; kind = NoCommonValue })
-unfolding first_broken types_differ key_differs val_differs same_name has has_col same_col
+unfolding first_broken types_differ same_name has has_col same_col
 join_lacks = is_broken (join_rules 7 ij_v i_w) (record { at = 7; kind = NoCommonValue }) refl
 
 -- an agg by i, i and w: all are asked for being keys first
@@ -138,14 +140,14 @@ entry_first = is_broken (entries_rules i_w (record { at = 25; key = number 25 1 
 abbrev unknown : ℕ → AstNode
 unknown place = record { at = place; op = Named (at place j) }
 
-unknown_refused : (place : ℕ) → NodeRefused [] [] (unknown place) (record { at = place; kind = NoName })
-unfolding first_broken rules_of type_named operands NodesHave
-unknown_refused place = here (unknown place) [] (record { at = place; kind = NoName }) tt (is_broken (rules_of [] [] place (Named (at place j)) []) (record { at = place; kind = NoName }) refl)
+unknown_refused : (ps : Plugins) (place : ℕ) → NodeRefused ps [] [] (unknown place) (record { at = place; kind = NoName })
+unfolding first_broken rules_of newest operands NodesHave
+unknown_refused ps place = here (unknown place) [] (record { at = place; kind = NoName }) tt (is_broken (rules_of ps [] [] place (Named (at place j)) []) (record { at = place; kind = NoName }) refl)
 
 -- of two operands that are refused the left one counts
-left_first : NodeRefused [] [] (record { at = 2; op = Join (unknown 7) (unknown 9) }) (record { at = 7; kind = NoName })
+left_first : (ps : Plugins) → NodeRefused ps [] [] (record { at = 2; op = Join (unknown 7) (unknown 9) }) (record { at = 7; kind = NoName })
 unfolding operands NodesHave Rattle.lara_syntax.specs.declared.ast.AstOp.TheBlock.hidden-the_row-AstNode-0 denote.Hole.Carrier.hidden
-left_first = below (record { at = 2; op = Join (unknown 7) (unknown 9) }) (unknown 7) [] (unknown 9 ∷ []) [] (record { at = 7; kind = NoName }) refl tt (unknown_refused 7)
+left_first ps = below (record { at = 2; op = Join (unknown 7) (unknown 9) }) (unknown 7) [] (unknown 9 ∷ []) [] (record { at = 7; kind = NoName }) refl tt (unknown_refused ps 7)
 
 -- ---- statements
 
@@ -166,9 +168,9 @@ two_statements = record {
 }
 
 -- the first statement has a type, so the second one's refusal counts, and not the third one's
-second_refused : Refused [] two_statements (record { at = 26; kind = NoName })
-unfolding checked walk checked_op first_broken once_rules entries_rules are_columns type_named same_name has
-second_refused = script_refused [] two_statements (record { at = 26; kind = NoName }) refl
+second_refused : (ps : Plugins) → Refused ps [] two_statements (record { at = 26; kind = NoName })
+unfolding checked walk checked_op first_broken once_rules entries_rules are_columns distinct newest same_name has
+second_refused ps = script_refused ps [] two_statements (record { at = 26; kind = NoName }) refl
 
 -- each table before has a type, and its name is known: nothing is refused
 abbrev one_statement : Ast
@@ -181,6 +183,6 @@ one_statement = record {
 abbrev assigned_table : Node
 assigned_table = record { ty = record { keys = key j ∷ []; vals = val v ∷ [] }; op = to.Literal (record { key = key_value.Nat 1 ∷ []; row = value.Count 2 ∷ [] } ∷ []) }
 
-one_typed : HasTypes [] one_statement (Assign i assigned_table ∷ Print i (j ∷ []) ∷ [])
-unfolding checked walk checked_op first_broken once_rules entries_rules key_kind_rules val_kind_rules range_rules key_values row_values are_columns type_named same_name has
-one_typed = checked_has [] one_statement (Assign i assigned_table ∷ Print i (j ∷ []) ∷ []) refl
+one_typed : (ps : Plugins) → HasTypes ps [] one_statement (Assign i assigned_table ∷ Print i (j ∷ []) ∷ [])
+unfolding checked walk checked_op first_broken once_rules entries_rules key_kind_rules val_kind_rules range_rules key_values row_values are_columns distinct newest same_name has
+one_typed ps = checked_has ps [] one_statement (Assign i assigned_table ∷ Print i (j ∷ []) ∷ []) refl

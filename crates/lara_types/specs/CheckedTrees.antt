@@ -7,6 +7,7 @@ use Rattle.lara_data.specs.declared.node.Op.TheVariants as to
 use Rattle.lara_data.specs.declared.refusal.Kind.TheVariants.{Unexpected, NoTable, NoName}
 use Rattle.lara_data.specs.declared.schema.Schema.{Schema}
 use Rattle.lara_data.specs.Algebra.{join_columns, union_columns, agg_columns}
+use Rattle.lara_data.specs.Plugins.{Plugins}
 use Rattle.lara_data.specs.TableTypes.{Columns}
 use Rattle.lara_data.specs.TypedTrees.{type_named}
 use Rattle.lara_syntax.specs.declared.ast.AstEntry.{AstEntry}
@@ -58,27 +59,28 @@ summed a ks = by_rules (agg_rules a.ty ks) (typed (agg_columns a.ty (plain ks)) 
 
 -- What makes a table, with its first word at this place. The first list has the stored names, the second one those that
 -- the script assigned so far. What has no words in the grammar yet is refused at its place.
-unfoldable pub checked_op : List Schema → List Schema → ℕ → AstOp → Judged Node
-checked_op stored known at (Load n) = loaded stored n
-checked_op stored known at (Named n) = assigned known n
-checked_op stored known at (Literal ty es) = literal at ty es
-checked_op stored known at (Join' _ (more_of-AstNode i a end_of-AstNode) _ (more_of-AstNode j b end_of-AstNode)) = do
-  x ← checked_op stored known i a
-  y ← checked_op stored known j b
+unfoldable pub checked_op : Plugins → List Schema → List Schema → ℕ → AstOp → Judged Node
+checked_op ps stored known at (Load n) = loaded stored n
+checked_op ps stored known at (Named n) = assigned known n
+checked_op ps stored known at (Literal ty es) = literal at ty es
+checked_op ps stored known at (Join' _ (more_of-AstNode i a end_of-AstNode) _ (more_of-AstNode j b end_of-AstNode)) = do
+  x ← checked_op ps stored known i a
+  y ← checked_op ps stored known j b
   joined at x y
-checked_op stored known at (Union' _ (more_of-AstNode i a end_of-AstNode) _ (more_of-AstNode j b end_of-AstNode)) = do
-  x ← checked_op stored known i a
-  y ← checked_op stored known j b
+checked_op ps stored known at (Union' _ (more_of-AstNode i a end_of-AstNode) _ (more_of-AstNode j b end_of-AstNode)) = do
+  x ← checked_op ps stored known i a
+  y ← checked_op ps stored known j b
   united at x y
-checked_op stored known at (Agg' _ (more_of-AstNode i a end_of-AstNode) ks) = do
-  x ← checked_op stored known i a
+checked_op ps stored known at (Agg' _ (more_of-AstNode i a end_of-AstNode) ks) = do
+  x ← checked_op ps stored known i a
   summed x ks
-checked_op stored known at (Map' _ (more_of-AstNode i a end_of-AstNode) defs) = refused at Unexpected
-checked_op stored known at (Filter' _ (more_of-AstNode i a end_of-AstNode) test) = refused at Unexpected
-checked_op stored known at (Promote' _ (more_of-AstNode i a end_of-AstNode) def) = refused at Unexpected
-checked_op stored known at (Rename' _ (more_of-AstNode i a end_of-AstNode) pairs) = refused at Unexpected
-checked_op stored known at (Apply' _ (more_of-AstNode i a end_of-AstNode) call) = refused at Unexpected
+-- no words yet
+checked_op ps stored known at (Map' _ (more_of-AstNode i a end_of-AstNode) defs) = refused at Unexpected
+checked_op ps stored known at (Filter' _ (more_of-AstNode i a end_of-AstNode) test) = refused at Unexpected
+checked_op ps stored known at (Promote' _ (more_of-AstNode i a end_of-AstNode) def) = refused at Unexpected
+checked_op ps stored known at (Rename' _ (more_of-AstNode i a end_of-AstNode) pairs) = refused at Unexpected
+checked_op ps stored known at (Apply' _ (more_of-AstNode i a end_of-AstNode) call) = refused at Unexpected
 
 -- the typed tree of a table
-abbrev pub checked_node : List Schema → List Schema → AstNode → Judged Node
-checked_node stored known node = checked_op stored known node.at node.op
+abbrev pub checked_node : Plugins → List Schema → List Schema → AstNode → Judged Node
+checked_node ps stored known node = checked_op ps stored known node.at node.op

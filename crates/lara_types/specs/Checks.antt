@@ -5,6 +5,7 @@ use Rattle.lara_data.specs.declared.schema.Schema.{Schema}
 use Rattle.lara_data.specs.declared.script.Statement.{Statement}
 use Rattle.lara_data.specs.declared.script.Statement.TheVariants.{Assign, Print, Store}
 use Rattle.lara_data.specs.Names.{Name}
+use Rattle.lara_data.specs.Plugins.{Plugins}
 use Rattle.lara_data.specs.TableTypes.{Columns, key_names}
 use Rattle.lara_data.specs.TypedScripts.{known_after}
 use Rattle.lara_data.specs.TypedTrees.{type_named}
@@ -35,12 +36,12 @@ abbrev pub kept : AstName → Option Columns → AstName → Judged Statement
 kept old found new = by_rules (known_rules NoName old found) (Store old.name new.name)
 
 -- a statement, where these names are stored and those assigned
-abbrev pub checked_statement : List Schema → List Schema → AstStatement → Judged Statement
-checked_statement stored known (ast.Assign at name node) = do
-  table ← checked_node stored known node
+abbrev pub checked_statement : Plugins → List Schema → List Schema → AstStatement → Judged Statement
+checked_statement ps stored known (ast.Assign at name node) = do
+  table ← checked_node ps stored known node
   Ok (Assign name.name table)
-checked_statement stored known (ast.Print at name by) = printed name (type_named name.name known) by
-checked_statement stored known (ast.Store at old new) = kept old (type_named old.name known) new
+checked_statement ps stored known (ast.Print at name by) = printed name (type_named name.name known) by
+checked_statement ps stored known (ast.Store at old new) = kept old (type_named old.name known) new
 
 -- the statements so far, and the names that they assign with their types
 pub record Progress : Type 0 where
@@ -52,13 +53,13 @@ abbrev pub at_start : Progress
 at_start = record { known = []; statements = [] }
 
 -- one statement more
-abbrev pub one_more : List Schema → Progress → AstStatement → Judged Progress
-one_more stored done statement = do
-  s ← checked_statement stored done.known statement
+abbrev pub one_more : Plugins → List Schema → Progress → AstStatement → Judged Progress
+one_more ps stored done statement = do
+  s ← checked_statement ps stored done.known statement
   Ok (record { known = known_after done.known s; statements = done.statements ++ s ∷ [] })
 
 -- the typed script of a tree, or the first refusal
-unfoldable pub checked : List Schema → Ast → Judged (List Statement)
-checked stored tree = do
-  done ← walk (one_more stored) at_start tree.statements
+unfoldable pub checked : Plugins → List Schema → Ast → Judged (List Statement)
+checked ps stored tree = do
+  done ← walk (one_more ps stored) at_start tree.statements
   Ok done.statements

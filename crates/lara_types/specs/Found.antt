@@ -10,6 +10,7 @@ use Rattle.lara_data.specs.declared.script.Statement.{Statement}
 use Rattle.lara_data.specs.declared.script.Statement.TheVariants.{Assign, Print, Store}
 use Rattle.lara_data.specs.Algebra.{join_columns, union_columns, agg_columns}
 use Rattle.lara_data.specs.Names.{Name}
+use Rattle.lara_data.specs.Plugins.{Plugins}
 use Rattle.lara_data.specs.TableTypes.{Columns}
 use Rattle.lara_data.specs.TypeRuleLaws.{IsJoin, IsUnion, IsAgg}
 use Rattle.lara_data.specs.TypedScripts.{known_after}
@@ -37,8 +38,8 @@ use Rattle.lara_types.specs.Written.{plain}
 
 -- ---- trees
 
-module _ (stored known : List Schema) where
-  pub op_found : (at : ℕ) (tree : AstOp) (node : Node) → checked_op stored known at tree ≡ Ok node → OpHas stored known tree node
+module _ (ps : Plugins) (stored known : List Schema) where
+  pub op_found : (at : ℕ) (tree : AstOp) (node : Node) → checked_op ps stored known at tree ≡ Ok node → OpHas ps stored known tree node
   unfolding checked_op OpHas
   op_found at (Load n) node e =
       let found = type_named n.name stored in
@@ -50,17 +51,17 @@ module _ (stored known : List Schema) where
       (ap (λ (m : Node). m.op) (sym p.1), known_met NoName n found p.0 ∙ ap (λ (m : Node). Some m.ty) p.1)
   op_found at (Literal ty es) node e = literal_found at ty es node e
   op_found at (Join' _ (more_of-AstNode i a end_of-AstNode) _ (more_of-AstNode j b end_of-AstNode)) node e =
-      let x = bind_ok_parts (checked_op stored known i a) (λ x. checked_op stored known j b >>= λ y. joined at x y) node e in
-      let y = bind_ok_parts (checked_op stored known j b) (λ y. joined at x.0 y) node x.2 in
+      let x = bind_ok_parts (checked_op ps stored known i a) (λ x. checked_op ps stored known j b >>= λ y. joined at x y) node e in
+      let y = bind_ok_parts (checked_op ps stored known j b) (λ y. joined at x.0 y) node x.2 in
       let p = rules_met (join_rules at x.0.ty y.0.ty) (typed (join_columns x.0.ty y.0.ty) (to.Join x.0 y.0)) node y.2 in
       (x.0, y.0, ap (λ (m : Node). m.op) (sym p.1), subst (λ (m : Node). IsJoin x.0.ty y.0.ty m.ty) p.1 (join_met at x.0.ty y.0.ty p.0), op_found i a x.0 x.1, op_found j b y.0 y.1)
   op_found at (Union' _ (more_of-AstNode i a end_of-AstNode) _ (more_of-AstNode j b end_of-AstNode)) node e =
-      let x = bind_ok_parts (checked_op stored known i a) (λ x. checked_op stored known j b >>= λ y. united at x y) node e in
-      let y = bind_ok_parts (checked_op stored known j b) (λ y. united at x.0 y) node x.2 in
+      let x = bind_ok_parts (checked_op ps stored known i a) (λ x. checked_op ps stored known j b >>= λ y. united at x y) node e in
+      let y = bind_ok_parts (checked_op ps stored known j b) (λ y. united at x.0 y) node x.2 in
       let p = rules_met (union_rules at x.0.ty y.0.ty) (typed (union_columns x.0.ty y.0.ty) (to.Union x.0 y.0)) node y.2 in
       (x.0, y.0, ap (λ (m : Node). m.op) (sym p.1), subst (λ (m : Node). IsUnion x.0.ty y.0.ty m.ty) p.1 (union_met at x.0.ty y.0.ty p.0), op_found i a x.0 x.1, op_found j b y.0 y.1)
   op_found at (Agg' _ (more_of-AstNode i a end_of-AstNode) ks) node e =
-      let x = bind_ok_parts (checked_op stored known i a) (λ x. summed x ks) node e in
+      let x = bind_ok_parts (checked_op ps stored known i a) (λ x. summed x ks) node e in
       let p = rules_met (agg_rules x.0.ty ks) (typed (agg_columns x.0.ty (plain ks)) (to.Agg x.0 (plain ks))) node x.2 in
       (x.0, ap (λ (m : Node). m.op) (sym p.1), subst (λ (m : Node). IsAgg x.0.ty (plain ks) m.ty) p.1 (agg_met x.0.ty ks p.0), op_found i a x.0 x.1)
   op_found at (Map' _ (more_of-AstNode i a end_of-AstNode) defs) node e = cc
@@ -80,40 +81,40 @@ print_found known name found by s is e =
     let known_is = known_met NoName name found m.0 in
     (columns_in found, order_in (columns_in found) by, sym p.1, is ∙ known_is, order_met (columns_in found) by (subst (λ (o : Option Columns). AllMet (order_rules o by)) known_is m.1))
 
-module _ (stored : List Schema) where
-  statement_found : (known : List Schema) (x : AstStatement) (s : Statement) → checked_statement stored known x ≡ Ok s → StatementHas stored known x s
+module _ (ps : Plugins) (stored : List Schema) where
+  statement_found : (known : List Schema) (x : AstStatement) (s : Statement) → checked_statement ps stored known x ≡ Ok s → StatementHas ps stored known x s
   statement_found known (ast.Assign at name tree) s e =
-      let p = bind_ok_parts (checked_node stored known tree) (λ node. Ok (Assign name.name node)) s e in
-      (p.0, sym (ok_is (Assign name.name p.0) s p.2), op_found stored known tree.at tree.op p.0 p.1)
+      let p = bind_ok_parts (checked_node ps stored known tree) (λ node. Ok (Assign name.name node)) s e in
+      (p.0, sym (ok_is (Assign name.name p.0) s p.2), op_found ps stored known tree.at tree.op p.0 p.1)
   statement_found known (ast.Print at name by) s e = print_found known name (type_named name.name known) by s refl e
   statement_found known (ast.Store at old new) s e =
       let found = type_named old.name known in
       let p = rules_met (known_rules NoName old found) (Store old.name new.name) s e in
       (columns_in found, sym p.1, known_met NoName old found p.0)
 
-  pub one_found : (done next : Progress) (x : AstStatement) → one_more stored done x ≡ Ok next → (s : Statement) × (next.known ≡ known_after done.known s) × (next.statements ≡ done.statements ++ s ∷ []) × StatementHas stored done.known x s
+  pub one_found : (done next : Progress) (x : AstStatement) → one_more ps stored done x ≡ Ok next → (s : Statement) × (next.known ≡ known_after done.known s) × (next.statements ≡ done.statements ++ s ∷ []) × StatementHas ps stored done.known x s
   one_found done next x e =
-      let p = bind_ok_parts (checked_statement stored done.known x) (λ s. Ok (record { known = known_after done.known s; statements = done.statements ++ s ∷ [] })) next e in
+      let p = bind_ok_parts (checked_statement ps stored done.known x) (λ s. Ok (record { known = known_after done.known s; statements = done.statements ++ s ∷ [] })) next e in
       let made = ok_is (record { known = known_after done.known p.0; statements = done.statements ++ p.0 ∷ [] }) next p.2 in
       (p.0, ap (λ (q : Progress). q.known) (sym made), ap (λ (q : Progress). q.statements) (sym made), statement_found done.known x p.0 p.1)
 
   -- the statements behind those so far
-  all_found : (done last : Progress) (xs : List AstStatement) → walk (one_more stored) done xs ≡ Ok last → (ss : List Statement) × (last.statements ≡ done.statements ++ ss) × StatementsHave stored done.known xs ss
+  all_found : (done last : Progress) (xs : List AstStatement) → walk (one_more ps stored) done xs ≡ Ok last → (ss : List Statement) × (last.statements ≡ done.statements ++ ss) × StatementsHave ps stored done.known xs ss
   unfolding walk StatementsHave
   all_found done last [] e = ([], ap (λ (p : Progress). p.statements) (sym (ok_is done last e)) ∙ sym (append-nil done.statements), tt)
   all_found done last (x ∷ xs) e =
-      let p = bind_ok_parts (one_more stored done x) (λ t. walk (one_more stored) t xs) last e in
+      let p = bind_ok_parts (one_more ps stored done x) (λ t. walk (one_more ps stored) t xs) last e in
       let one = one_found done p.0 x p.1 in
       let rest = all_found p.0 last xs p.2 in
-      (one.0 ∷ rest.0, behind done.statements p.0.statements last.statements rest.0 one.0 one.2 rest.1, (one.3, subst (λ known. StatementsHave stored known xs rest.0) one.1 rest.2))
+      (one.0 ∷ rest.0, behind done.statements p.0.statements last.statements rest.0 one.0 one.2 rest.1, (one.3, subst (λ known. StatementsHave ps stored known xs rest.0) one.1 rest.2))
     where
       behind : (before now all rest : List Statement) (s : Statement) → now ≡ before ++ s ∷ [] → all ≡ now ++ rest → all ≡ before ++ s ∷ rest
       behind before now all rest s e f = f ∙ ap (λ l. l ++ rest) e ∙ append_assoc before (s ∷ []) rest
 
 -- the typed script that the rules judge is what the tree stands for
-pub checked_has : (stored : List Schema) (tree : Ast) (ss : List Statement) → checked stored tree ≡ Ok ss → HasTypes stored tree ss
+pub checked_has : (ps : Plugins) (stored : List Schema) (tree : Ast) (ss : List Statement) → checked ps stored tree ≡ Ok ss → HasTypes ps stored tree ss
 unfolding checked
-checked_has stored tree ss e =
-    let p = bind_ok_parts (walk (one_more stored) at_start tree.statements) (λ done. Ok done.statements) ss e in
-    let q = all_found stored at_start p.0 tree.statements p.1 in
-    subst (StatementsHave stored [] tree.statements) (sym q.1 ∙ ok_is p.0.statements ss p.2) q.2
+checked_has ps stored tree ss e =
+    let p = bind_ok_parts (walk (one_more ps stored) at_start tree.statements) (λ done. Ok done.statements) ss e in
+    let q = all_found ps stored at_start p.0 tree.statements p.1 in
+    subst (StatementsHave ps stored [] tree.statements) (sym q.1 ∙ ok_is p.0.statements ss p.2) q.2

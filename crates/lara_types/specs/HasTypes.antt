@@ -18,6 +18,7 @@ use Rattle.lara_data.specs.declared.table_type.KeyCol.{KeyCol}
 use Rattle.lara_data.specs.declared.table_type.ValCol.{ValCol}
 use Rattle.lara_data.specs.KeyedTables.{Row}
 use Rattle.lara_data.specs.Names.{Name, Tuple}
+use Rattle.lara_data.specs.Plugins.{Plugins}
 use Rattle.lara_data.specs.Tables.{Entries}
 use Rattle.lara_data.specs.TableTypes.{Columns, key_names, are_columns}
 use Rattle.lara_data.specs.TypeRuleLaws.{IsJoin, IsUnion, IsAgg}
@@ -80,25 +81,26 @@ pub record LiteralHas (ty : AstType) (xs : List AstEntry) (node : Node) : Type 0
 
 -- The tree stands for the typed tree, where the first list has the stored names and the second one those that were
 -- assigned. What has no words in the grammar yet stands for none.
-unfoldable pub OpHas : List Schema → List Schema → AstOp → Node → Type 0
-OpHas stored known (Load n) node = (node.op ≡ to.Load n.name) × (type_named n.name stored ≡ Some node.ty)
-OpHas stored known (Named n) node = (node.op ≡ to.Named n.name) × (type_named n.name known ≡ Some node.ty)
-OpHas stored known (Literal ty es) node = LiteralHas ty es node
-OpHas stored known (Join' _ (more_of-AstNode i a end_of-AstNode) _ (more_of-AstNode j b end_of-AstNode)) node =
-    (x : Node) × (y : Node) × (node.op ≡ to.Join x y) × IsJoin x.ty y.ty node.ty × OpHas stored known a x × OpHas stored known b y
-OpHas stored known (Union' _ (more_of-AstNode i a end_of-AstNode) _ (more_of-AstNode j b end_of-AstNode)) node =
-    (x : Node) × (y : Node) × (node.op ≡ to.Union x y) × IsUnion x.ty y.ty node.ty × OpHas stored known a x × OpHas stored known b y
-OpHas stored known (Agg' _ (more_of-AstNode i a end_of-AstNode) ks) node =
-    (x : Node) × (node.op ≡ to.Agg x (plain ks)) × IsAgg x.ty (plain ks) node.ty × OpHas stored known a x
-OpHas stored known (Map' _ (more_of-AstNode i a end_of-AstNode) defs) node = ⊥
-OpHas stored known (Filter' _ (more_of-AstNode i a end_of-AstNode) test) node = ⊥
-OpHas stored known (Promote' _ (more_of-AstNode i a end_of-AstNode) def) node = ⊥
-OpHas stored known (Rename' _ (more_of-AstNode i a end_of-AstNode) pairs) node = ⊥
-OpHas stored known (Apply' _ (more_of-AstNode i a end_of-AstNode) call) node = ⊥
+unfoldable pub OpHas : Plugins → List Schema → List Schema → AstOp → Node → Type 0
+OpHas ps stored known (Load n) node = (node.op ≡ to.Load n.name) × (type_named n.name stored ≡ Some node.ty)
+OpHas ps stored known (Named n) node = (node.op ≡ to.Named n.name) × (type_named n.name known ≡ Some node.ty)
+OpHas ps stored known (Literal ty es) node = LiteralHas ty es node
+OpHas ps stored known (Join' _ (more_of-AstNode i a end_of-AstNode) _ (more_of-AstNode j b end_of-AstNode)) node =
+    (x : Node) × (y : Node) × (node.op ≡ to.Join x y) × IsJoin x.ty y.ty node.ty × OpHas ps stored known a x × OpHas ps stored known b y
+OpHas ps stored known (Union' _ (more_of-AstNode i a end_of-AstNode) _ (more_of-AstNode j b end_of-AstNode)) node =
+    (x : Node) × (y : Node) × (node.op ≡ to.Union x y) × IsUnion x.ty y.ty node.ty × OpHas ps stored known a x × OpHas ps stored known b y
+OpHas ps stored known (Agg' _ (more_of-AstNode i a end_of-AstNode) ks) node =
+    (x : Node) × (node.op ≡ to.Agg x (plain ks)) × IsAgg x.ty (plain ks) node.ty × OpHas ps stored known a x
+-- no words yet
+OpHas ps stored known (Map' _ (more_of-AstNode i a end_of-AstNode) defs) node = ⊥
+OpHas ps stored known (Filter' _ (more_of-AstNode i a end_of-AstNode) test) node = ⊥
+OpHas ps stored known (Promote' _ (more_of-AstNode i a end_of-AstNode) def) node = ⊥
+OpHas ps stored known (Rename' _ (more_of-AstNode i a end_of-AstNode) pairs) node = ⊥
+OpHas ps stored known (Apply' _ (more_of-AstNode i a end_of-AstNode) call) node = ⊥
 
 -- the written node stands for the typed one
-abbrev pub NodeHas : List Schema → List Schema → AstNode → Node → Type 0
-NodeHas stored known tree node = OpHas stored known tree.op node
+abbrev pub NodeHas : Plugins → List Schema → List Schema → AstNode → Node → Type 0
+NodeHas ps stored known tree node = OpHas ps stored known tree.op node
 
 -- ---- scripts
 
@@ -108,17 +110,17 @@ IsOrder ty None order = order ≡ key_names ty.keys
 IsOrder ty (Some by) order = (order ≡ plain by.names) × (is_order order (key_names ty.keys) ≡ true)
 
 -- the written statement stands for the typed one
-abbrev pub StatementHas : List Schema → List Schema → AstStatement → Statement → Type 0
-StatementHas stored known (ast.Assign at name tree) s = (node : Node) × (s ≡ Assign name.name node) × NodeHas stored known tree node
-StatementHas stored known (ast.Print at name by) s = (ty : Columns) × (order : List Name) × (s ≡ Print name.name order) × (type_named name.name known ≡ Some ty) × IsOrder ty by order
-StatementHas stored known (ast.Store at old new) s = (ty : Columns) × (s ≡ Store old.name new.name) × (type_named old.name known ≡ Some ty)
+abbrev pub StatementHas : Plugins → List Schema → List Schema → AstStatement → Statement → Type 0
+StatementHas ps stored known (ast.Assign at name tree) s = (node : Node) × (s ≡ Assign name.name node) × NodeHas ps stored known tree node
+StatementHas ps stored known (ast.Print at name by) s = (ty : Columns) × (order : List Name) × (s ≡ Print name.name order) × (type_named name.name known ≡ Some ty) × IsOrder ty by order
+StatementHas ps stored known (ast.Store at old new) s = (ty : Columns) × (s ≡ Store old.name new.name) × (type_named old.name known ≡ Some ty)
 
 -- each statement, where the names of those before it are known
-unfoldable pub StatementsHave : List Schema → List Schema → List AstStatement → List Statement → Type 0
-StatementsHave stored known [] [] = Unit {0}
-StatementsHave stored known (x ∷ xs) (s ∷ ss) = StatementHas stored known x s × StatementsHave stored (known_after known s) xs ss
-StatementsHave stored known xs ss = ⊥
+unfoldable pub StatementsHave : Plugins → List Schema → List Schema → List AstStatement → List Statement → Type 0
+StatementsHave ps stored known [] [] = Unit {0}
+StatementsHave ps stored known (x ∷ xs) (s ∷ ss) = StatementHas ps stored known x s × StatementsHave ps stored (known_after known s) xs ss
+StatementsHave ps stored known xs ss = ⊥
 
 -- the tree of a script stands for the typed script, over the stored names
-abbrev pub HasTypes : List Schema → Ast → List Statement → Type 0
-HasTypes stored tree ss = StatementsHave stored [] tree.statements ss
+abbrev pub HasTypes : Plugins → List Schema → Ast → List Statement → Type 0
+HasTypes ps stored tree ss = StatementsHave ps stored [] tree.statements ss

@@ -15,9 +15,9 @@ use Rattle.lara_data.specs.declared.node.Op.TheVariants as to
 use Rattle.lara_data.specs.declared.table_type.KeyCol.{KeyCol}
 use Rattle.lara_data.specs.declared.table_type.ValCol.{ValCol}
 use Rattle.lara_data.specs.KeyedTables.{Row}
-use Rattle.lara_data.specs.Names.{Name, has, distinct, not_true, Tuple}
-use Rattle.lara_data.specs.Sequences.{turned_name}
-use Rattle.lara_data.specs.TableTypes.{Columns, has_key, has_val, are_vals_distinct, are_distinct, are_columns}
+use Rattle.lara_data.specs.DistinctColumns.{distinct_names}
+use Rattle.lara_data.specs.Names.{distinct, Tuple}
+use Rattle.lara_data.specs.TableTypes.{Columns, column_names, are_columns}
 use Rattle.lara_data.specs.Tables.{Entry, Entries}
 use Rattle.lara_syntax.specs.declared.ast.AstEntry.{AstEntry}
 use Rattle.lara_syntax.specs.declared.ast.AstKeyCol.{AstKeyCol}
@@ -144,38 +144,19 @@ entries_meet ty (x ∷ xs) (e ∷ es) h =
 
 -- ---- columns
 
-has_all : (keys : List AstKeyCol) (vals : List AstValCol) (n : Name) → has (plain (names_of keys vals)) n ≡ (has_key n (map key_col keys) || has_val n (map val_col vals))
-unfolding has
-has_all [] [] n = refl
-has_all [] (v ∷ vals) n = λ i. turned_name v.name.name n i || has_all [] vals n i
-has_all (k ∷ keys) vals n =
-    (λ i. turned_name k.name.name n i || has_all keys vals n i)
-    ∙ sym (or_assoc (bytes_eq k.name.name n) (has_key n (map key_col keys)) (has_val n (map val_col vals)))
-
--- where no two columns have one name, no name stands twice
-distinct_all : (keys : List AstKeyCol) (vals : List AstValCol) → are_distinct (map key_col keys) (map val_col vals) ≡ true → distinct (plain (names_of keys vals)) ≡ true
-unfolding distinct
-distinct_all [] [] d = refl
-distinct_all [] (v ∷ vals) d =
-    let parts = and_parts (not (has_val v.name.name (map val_col vals))) (are_vals_distinct (map val_col vals)) d in
-    and_from (not (has (plain (names_of [] vals)) v.name.name)) (distinct (plain (names_of [] vals))) (ap not (has_all [] vals v.name.name) ∙ parts.0) (distinct_all [] vals parts.1)
-distinct_all (k ∷ keys) vals d =
-    let n = k.name.name in
-    let parts = and_parts (not (has_key n (map key_col keys)) && not (has_val n (map val_col vals))) (are_distinct (map key_col keys) (map val_col vals)) d in
-    let fresh = and_parts (not (has_key n (map key_col keys))) (not (has_val n (map val_col vals))) parts.0 in
-    let none : not (has_key n (map key_col keys) || has_val n (map val_col vals)) ≡ true = λ i. not (not_true (has_key n (map key_col keys)) fresh.0 i || not_true (has_val n (map val_col vals)) fresh.1 i) in
-    and_from (not (has (plain (names_of keys vals)) n)) (distinct (plain (names_of keys vals))) (ap not (has_all keys vals n) ∙ none) (distinct_all keys vals parts.1)
+-- the names as they are written are those of the columns
+names_written : (keys : List AstKeyCol) (vals : List AstValCol) → plain (names_of keys vals) ≡ column_names (map key_col keys) (map val_col vals)
+names_written [] [] = refl
+names_written [] (v ∷ vals) = ap (λ ns. v.name.name ∷ ns) (names_written [] vals)
+names_written (k ∷ keys) vals = ap (λ ns. k.name.name ∷ ns) (names_written keys vals)
 
 columns_met : (at : ℕ) (ty : AstType) → AllMet (column_rules at ty) → are_columns (columns ty).keys (columns ty).vals ≡ true
 columns_met at ty m = first_met _ _ ((met_parts (once_rules [] (names_of ty.keys ty.vals)) _ m).1)
 
 columns_meet : (at : ℕ) (ty : AstType) → are_columns (columns ty).keys (columns ty).vals ≡ true → AllMet (column_rules at ty)
-unfolding are_columns
 columns_meet at ty h =
-    let keys = map key_col ty.keys in
-    let vals = map val_col ty.vals in
-    let apart = (and_parts _ (are_distinct keys vals) h).1 in
-    met_from (once_rules [] (names_of ty.keys ty.vals)) _ (once_meets [] (names_of ty.keys ty.vals) (distinct_all ty.keys ty.vals apart)) (met_cons _ _ h met_end)
+    let apart = ap distinct (names_written ty.keys ty.vals) ∙ distinct_names (columns ty).keys (columns ty).vals h in
+    met_from (once_rules [] (names_of ty.keys ty.vals)) _ (once_meets [] (names_of ty.keys ty.vals) apart) (met_cons _ _ h met_end)
 
 -- ---- literals
 

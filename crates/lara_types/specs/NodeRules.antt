@@ -7,6 +7,7 @@ use Rattle.lara_data.specs.declared.table_type.KeyCol.{KeyCol}
 use Rattle.lara_data.specs.declared.table_type.ValCol.{ValCol}
 use Rattle.lara_data.specs.Names.{Name, has}
 use Rattle.lara_data.specs.Algebra.{common_vals, join_columns, union_columns}
+use Rattle.lara_data.specs.Plugins.{Plugins}
 use Rattle.lara_data.specs.TableTypes.{Columns, key_names, are_columns}
 use Rattle.lara_data.specs.TypeRules.{types_differ, is_none, too_many}
 use Rattle.lara_data.specs.TypedScripts.{is_order}
@@ -99,14 +100,15 @@ literal_rules at ty es = column_rules at ty ++ entries_rules (columns ty) es
 -- ---- nodes and statements
 
 -- The rules of a node whose operands have these columns. What has no words in the grammar yet is refused.
-unfoldable pub rules_of : List Schema → List Schema → ℕ → AstOp → List Columns → List Rule
-rules_of stored known at (Load n) types = known_rules NoTable n (type_named n.name stored)
-rules_of stored known at (Named n) types = known_rules NoName n (type_named n.name known)
-rules_of stored known at (Literal ty es) types = literal_rules at ty es
-rules_of stored known at (Join' _ x _ y) (a ∷ b ∷ []) = join_rules at a b
-rules_of stored known at (Union' _ x _ y) (a ∷ b ∷ []) = union_rules at a b
-rules_of stored known at (Agg' _ x ks) (a ∷ []) = agg_rules a ks
-rules_of stored known at op types = rule at Unexpected false ∷ []
+unfoldable pub rules_of : Plugins → List Schema → List Schema → ℕ → AstOp → List Columns → List Rule
+rules_of ps stored known at (Load n) types = known_rules NoTable n (type_named n.name stored)
+rules_of ps stored known at (Named n) types = known_rules NoName n (type_named n.name known)
+rules_of ps stored known at (Literal ty es) types = literal_rules at ty es
+rules_of ps stored known at (Join' _ x _ y) (a ∷ b ∷ []) = join_rules at a b
+rules_of ps stored known at (Union' _ x _ y) (a ∷ b ∷ []) = union_rules at a b
+rules_of ps stored known at (Agg' _ x ks) (a ∷ []) = agg_rules a ks
+-- no words yet
+rules_of ps stored known at op types = rule at Unexpected false ∷ []
 
 -- the order is one of the type's, where a type was found
 abbrev pub order_rules : Option Columns → Option AstBy → List Rule

@@ -10,6 +10,7 @@ use Rattle.lara_data.specs.declared.schema.Schema.{Schema}
 use Rattle.lara_data.specs.declared.script.Statement.{Statement}
 use Rattle.lara_data.specs.declared.script.Statement.TheVariants.{Assign, Print, Store}
 use Rattle.lara_data.specs.Algebra.{join_columns, union_columns, agg_columns}
+use Rattle.lara_data.specs.Plugins.{Plugins}
 use Rattle.lara_data.specs.TableTypes.{Columns}
 use Rattle.lara_data.specs.TypedScripts.{known_after, all_known}
 use Rattle.lara_syntax.specs.declared.ast.Ast.{Ast}
@@ -37,8 +38,8 @@ use Rattle.lara_types.specs.Written.{plain}
 made_node : (ty : Columns) (op : Op) (node : Node) → ty ≡ node.ty → node.op ≡ op → answered (typed ty op) ≡ Ok node
 made_node ty op node own is = λ i. answered (typed (own i) (sym is i))
 
-module _ (stored known : List Schema) where
-  pub op_only : (at : ℕ) (tree : AstOp) (node : Node) → OpHas stored known tree node → checked_op stored known at tree ≡ Ok node
+module _ (ps : Plugins) (stored known : List Schema) where
+  pub op_only : (at : ℕ) (tree : AstOp) (node : Node) → OpHas ps stored known tree node → checked_op ps stored known at tree ≡ Ok node
   unfolding checked_op OpHas
   op_only at (Load n) node h =
       (λ i. by_rules (known_rules NoTable n (h.1 i)) (typed (columns_in (h.1 i)) (to.Load n.name)))
@@ -50,12 +51,12 @@ module _ (stored known : List Schema) where
       ∙ made_node node.ty (to.Named n.name) node refl h.0
   op_only at (Literal ty es) node h = literal_only at ty es node h
   op_only at (Join' _ (more_of-AstNode i a end_of-AstNode) _ (more_of-AstNode j b end_of-AstNode)) node h =
-      (λ k. op_only i a h.0 h.4 k >>= λ x. checked_op stored known j b >>= λ y. joined at x y)
+      (λ k. op_only i a h.0 h.4 k >>= λ x. checked_op ps stored known j b >>= λ y. joined at x y)
       ∙ (λ k. op_only j b h.1 h.5 k >>= λ y. joined at h.0 y)
       ∙ rules_answer (join_rules at h.0.ty h.1.ty) (typed (join_columns h.0.ty h.1.ty) (to.Join h.0 h.1)) (join_meets at h.0.ty h.1.ty node.ty h.3)
       ∙ made_node (join_columns h.0.ty h.1.ty) (to.Join h.0 h.1) node h.3.is h.2
   op_only at (Union' _ (more_of-AstNode i a end_of-AstNode) _ (more_of-AstNode j b end_of-AstNode)) node h =
-      (λ k. op_only i a h.0 h.4 k >>= λ x. checked_op stored known j b >>= λ y. united at x y)
+      (λ k. op_only i a h.0 h.4 k >>= λ x. checked_op ps stored known j b >>= λ y. united at x y)
       ∙ (λ k. op_only j b h.1 h.5 k >>= λ y. united at h.0 y)
       ∙ rules_answer (union_rules at h.0.ty h.1.ty) (typed (union_columns h.0.ty h.1.ty) (to.Union h.0 h.1)) (union_meets at h.0.ty h.1.ty node.ty h.3)
       ∙ made_node (union_columns h.0.ty h.1.ty) (to.Union h.0 h.1) node h.3.is h.2
@@ -71,10 +72,10 @@ module _ (stored known : List Schema) where
 
 -- ---- scripts
 
-module _ (stored : List Schema) where
-  statement_only : (known : List Schema) (x : AstStatement) (s : Statement) → StatementHas stored known x s → checked_statement stored known x ≡ Ok s
+module _ (ps : Plugins) (stored : List Schema) where
+  statement_only : (known : List Schema) (x : AstStatement) (s : Statement) → StatementHas ps stored known x s → checked_statement ps stored known x ≡ Ok s
   statement_only known (ast.Assign at name tree) s h =
-      (λ i. op_only stored known tree.at tree.op h.0 h.2 i >>= λ node. answered (Assign name.name node)) ∙ ap answered (sym h.1)
+      (λ i. op_only ps stored known tree.at tree.op h.0 h.2 i >>= λ node. answered (Assign name.name node)) ∙ ap answered (sym h.1)
   statement_only known (ast.Print at name by) s h =
       let o = order_meets h.0 by h.1 h.4 in
       (λ i. printed name (h.3 i) by)
@@ -90,18 +91,18 @@ module _ (stored : List Schema) where
   abbrev pub behind : Progress → List Statement → Progress
   behind done ss = record { known = all_known done.known ss; statements = done.statements ++ ss }
 
-  pub all_only : (done : Progress) (xs : List AstStatement) (ss : List Statement) → StatementsHave stored done.known xs ss → walk (one_more stored) done xs ≡ Ok (behind done ss)
+  pub all_only : (done : Progress) (xs : List AstStatement) (ss : List Statement) → StatementsHave ps stored done.known xs ss → walk (one_more ps stored) done xs ≡ Ok (behind done ss)
   unfolding walk StatementsHave all_known
   all_only done [] [] h = λ i. answered (record { known = done.known; statements = sym (append-nil done.statements) i })
   all_only done [] (s ∷ ss) h = absurd h
   all_only done (x ∷ xs) [] h = absurd h
   all_only done (x ∷ xs) (s ∷ ss) h =
       let next : Progress = record { known = known_after done.known s; statements = done.statements ++ s ∷ [] } in
-      (λ i. (statement_only done.known x s h.0 i >>= λ r. answered (record { known = known_after done.known r; statements = done.statements ++ r ∷ [] })) >>= λ t. walk (one_more stored) t xs)
+      (λ i. (statement_only done.known x s h.0 i >>= λ r. answered (record { known = known_after done.known r; statements = done.statements ++ r ∷ [] })) >>= λ t. walk (one_more ps stored) t xs)
       ∙ all_only next xs ss h.1
       ∙ (λ i. answered (record { known = all_known (known_after done.known s) ss; statements = append_assoc done.statements (s ∷ []) ss i }))
 
 -- the rules judge each typed script that a tree stands for
-pub has_checked : (stored : List Schema) (tree : Ast) (ss : List Statement) → HasTypes stored tree ss → checked stored tree ≡ Ok ss
+pub has_checked : (ps : Plugins) (stored : List Schema) (tree : Ast) (ss : List Statement) → HasTypes ps stored tree ss → checked ps stored tree ≡ Ok ss
 unfolding checked
-has_checked stored tree ss h = λ i. all_only stored at_start tree.statements ss h i >>= λ done. answered done.statements
+has_checked ps stored tree ss h = λ i. all_only ps stored at_start tree.statements ss h i >>= λ done. answered done.statements

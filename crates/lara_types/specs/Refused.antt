@@ -8,6 +8,7 @@ use Rattle.lara_data.specs.declared.refusal.ReadFault.{ReadFault}
 use Rattle.lara_data.specs.declared.refusal.ReadFault.TheVariants as faults
 use Rattle.lara_data.specs.declared.schema.Schema.{Schema}
 use Rattle.lara_data.specs.declared.script.Statement.{Statement}
+use Rattle.lara_data.specs.Plugins.{Plugins}
 use Rattle.lara_data.specs.TypedScripts.{all_known}
 use Rattle.lara_data.specs.TypedTrees.{type_named}
 use Rattle.lara_syntax.specs.declared.ast.Ast.{Ast}
@@ -29,32 +30,32 @@ operands (Agg' _ (more_of-AstNode i a end_of-AstNode) ks) = record { at = i; op 
 operands op = []
 
 -- each tree stands for a typed one
-unfoldable pub NodesHave : List Schema → List Schema → List AstNode → List Node → Type 0
-NodesHave stored known [] [] = Unit {0}
-NodesHave stored known (t ∷ ts) (n ∷ ns) = NodeHas stored known t n × NodesHave stored known ts ns
-NodesHave stored known ts ns = ⊥
+unfoldable pub NodesHave : Plugins → List Schema → List Schema → List AstNode → List Node → Type 0
+NodesHave ps stored known [] [] = Unit {0}
+NodesHave ps stored known (t ∷ ts) (n ∷ ns) = NodeHas ps stored known t n × NodesHave ps stored known ts ns
+NodesHave ps stored known ts ns = ⊥
 
 -- why a tree stands for no typed one, where the first list has the stored names and the second one those that were assigned
-pub data NodeRefused (stored known : List Schema) : AstNode → Refusal → Type 0 where
+pub data NodeRefused (ps : Plugins) (stored known : List Schema) : AstNode → Refusal → Type 0 where
   -- the operands have types, and this is the first rule that is broken
-  here : (t : AstNode) (ns : List Node) (r : Refusal) → NodesHave stored known (operands t.op) ns
-      → FirstBroken (rules_of stored known t.at t.op (map (λ n. n.ty) ns)) r → NodeRefused stored known t r
+  here : (t : AstNode) (ns : List Node) (r : Refusal) → NodesHave ps stored known (operands t.op) ns
+      → FirstBroken (rules_of ps stored known t.at t.op (map (λ n. n.ty) ns)) r → NodeRefused ps stored known t r
   -- an operand is refused, and those left of it have types
   below : (t bad : AstNode) (before after : List AstNode) (ns : List Node) (r : Refusal) → operands t.op ≡ before ++ bad ∷ after
-      → NodesHave stored known before ns → NodeRefused stored known bad r → NodeRefused stored known t r
+      → NodesHave ps stored known before ns → NodeRefused ps stored known bad r → NodeRefused ps stored known t r
 
 -- why a statement stands for no typed one
-abbrev pub StatementRefused : List Schema → List Schema → AstStatement → Refusal → Type 0
-StatementRefused stored known (ast.Assign at name tree) r = NodeRefused stored known tree r
-StatementRefused stored known (ast.Print at name by) r = FirstBroken (print_rules name (type_named name.name known) by) r
-StatementRefused stored known (ast.Store at old new) r = FirstBroken (known_rules NoName old (type_named old.name known)) r
+abbrev pub StatementRefused : Plugins → List Schema → List Schema → AstStatement → Refusal → Type 0
+StatementRefused ps stored known (ast.Assign at name tree) r = NodeRefused ps stored known tree r
+StatementRefused ps stored known (ast.Print at name by) r = FirstBroken (print_rules name (type_named name.name known) by) r
+StatementRefused ps stored known (ast.Store at old new) r = FirstBroken (known_rules NoName old (type_named old.name known)) r
 
 -- why a script stands for no typed one: a statement is refused, and all before it stand for typed ones
-pub data Refused (stored : List Schema) (tree : Ast) : Refusal → Type 0 where
+pub data Refused (ps : Plugins) (stored : List Schema) (tree : Ast) : Refusal → Type 0 where
   at_statement : (before : List AstStatement) (bad : AstStatement) (after : List AstStatement) (ss : List Statement) (r : Refusal) → tree.statements ≡ before ++ bad ∷ after
-      → StatementsHave stored [] before ss → StatementRefused stored (all_known [] ss) bad r → Refused stored tree r
+      → StatementsHave ps stored [] before ss → StatementRefused ps stored (all_known [] ss) bad r → Refused ps stored tree r
 
 -- a refusal is right by the rules; of memory nothing is said
-abbrev pub RefusedRight : List Schema → Ast → ReadFault → Type 0
-RefusedRight stored tree faults.Memory = Unit {0}
-RefusedRight stored tree (faults.Refused refusal) = Refused stored tree refusal
+abbrev pub RefusedRight : Plugins → List Schema → Ast → ReadFault → Type 0
+RefusedRight ps stored tree faults.Memory = Unit {0}
+RefusedRight ps stored tree (faults.Refused refusal) = Refused ps stored tree refusal

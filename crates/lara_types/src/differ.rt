@@ -1,77 +1,72 @@
-//! Names that stand for a column of one kind on one side of an operator and of another on the other.
+//! Names that stand for one thing in one type and for another in the other.
 ghost use Rattle.std.specs.Prelude.{◌≡◌};
 ghost use Rattle.std.specs.List.{list_any};
-ghost use Rattle.lara_data.specs.TypeRules.{is_other_key, is_other_val, key_differs, val_differs, types_differ};
+ghost use Rattle.lara_data.specs.TypeRules.{key_column, val_column, same_kind, clash, clashes, types_differ};
 
-use lara_data::{KeyCol, TableType, ValCol, has_key, has_val};
+use lara_base::Name;
+use lara_data::{ColumnKind, KeyCol, TableType, ValCol};
 use lara_key::same_key_type;
 use lara_semiring::same_val_type;
 
-#[tactic(auto, unfolding(lara_data::specs::Names::same_name))]
-fn is_other_key(k: &KeyCol, l: &KeyCol) -> bool
-    ensures { result ≡ is_other_key k.now l.now }
+fn same_kind(a: ColumnKind, b: ColumnKind) -> bool
+    ensures { result ≡ same_kind a b }
 {
-    k.name.same(&l.name) && !same_key_type(k.ty, l.ty)
-}
-
-#[tactic(auto, unfolding(lara_data::specs::Names::same_name))]
-fn is_other_val(v: &ValCol, w: &ValCol) -> bool
-    ensures { result ≡ is_other_val v.now w.now }
-{
-    v.name.same(&w.name) && !same_val_type(v.ty, w.ty)
-}
-
-fn has_other_key(keys: &[KeyCol], k: &KeyCol) -> bool
-    ensures { result ≡ list_any (is_other_key k.now) keys.now }
-{
-    keys.iter().any(|l| is_other_key(k, l))
-}
-
-fn has_other_val(vals: &[ValCol], v: &ValCol) -> bool
-    ensures { result ≡ list_any (is_other_val v.now) vals.now }
-{
-    vals.iter().any(|w| is_other_val(v, w))
-}
-
-#[tactic(auto, unfolding(lara_data::specs::TypeRules::key_differs))]
-fn key_differs(b: &TableType, k: &KeyCol) -> bool
-    ensures { result ≡ key_differs b.now k.now }
-{
-    if has_other_key(b.keys.as_slice(), k) {
-        return true;
+    match (a, b) {
+        (ColumnKind::Key(t), ColumnKind::Key(u)) => same_key_type(t, u),
+        (ColumnKind::Val(t), ColumnKind::Val(u)) => same_val_type(t, u),
+        (ColumnKind::Key(_), ColumnKind::Val(_)) => false,
+        (ColumnKind::Val(_), ColumnKind::Key(_)) => false,
     }
-    has_val(b.vals.as_slice(), &k.name)
 }
 
-#[tactic(auto, unfolding(lara_data::specs::TypeRules::val_differs))]
-fn val_differs(b: &TableType, v: &ValCol) -> bool
-    ensures { result ≡ val_differs b.now v.now }
+// Whether two columns have one name and are not the same.
+#[tactic(auto, unfolding(lara_data::specs::Names::same_name))]
+fn clash(name: &Name, kind: ColumnKind, other: &Name, of: ColumnKind) -> bool
+    ensures { result ≡ clash (record { name = name.now; kind = kind }) (record { name = other.now; kind = of }) }
 {
-    if has_other_val(b.vals.as_slice(), v) {
-        return true;
-    }
-    has_key(b.keys.as_slice(), &v.name)
+    name.same(other) && !same_kind(kind, of)
 }
 
-fn keys_differ(b: &TableType, keys: &[KeyCol]) -> bool
-    ensures { result ≡ list_any (key_differs b.now) keys.now }
+fn clashes_key(keys: &[KeyCol], name: &Name, kind: ColumnKind) -> bool
+    ensures { result ≡ list_any (λ k. clash (record { name = name.now; kind = kind }) (key_column k)) keys.now }
 {
-    keys.iter().any(|k| key_differs(b, k))
+    keys.iter()
+        .any(|k| clash(name, kind, &k.name, ColumnKind::Key(k.ty)))
 }
 
-fn vals_differ(b: &TableType, vals: &[ValCol]) -> bool
-    ensures { result ≡ list_any (val_differs b.now) vals.now }
+fn clashes_val(vals: &[ValCol], name: &Name, kind: ColumnKind) -> bool
+    ensures { result ≡ list_any (λ v. clash (record { name = name.now; kind = kind }) (val_column v)) vals.now }
 {
-    vals.iter().any(|v| val_differs(b, v))
+    vals.iter()
+        .any(|v| clash(name, kind, &v.name, ColumnKind::Val(v.ty)))
 }
 
-/// Whether a name stands for columns of two kinds.
-#[tactic(auto, unfolding(lara_data::specs::TypeRules::types_differ))]
+// Whether a column of the type has the name and is another.
+#[tactic(auto, using(lara_data::specs::TypeRuleLaws::any_column))]
+fn clashes(b: &TableType, name: &Name, kind: ColumnKind) -> bool
+    ensures { result ≡ clashes b.now (record { name = name.now; kind = kind }) }
+{
+    clashes_key(b.keys.as_slice(), name, kind) || clashes_val(b.vals.as_slice(), name, kind)
+}
+
+fn keys_clash(b: &TableType, keys: &[KeyCol]) -> bool
+    ensures { result ≡ list_any (λ k. clashes b.now (key_column k)) keys.now }
+{
+    keys.iter()
+        .any(|k| clashes(b, &k.name, ColumnKind::Key(k.ty)))
+}
+
+fn vals_clash(b: &TableType, vals: &[ValCol]) -> bool
+    ensures { result ≡ list_any (λ v. clashes b.now (val_column v)) vals.now }
+{
+    vals.iter()
+        .any(|v| clashes(b, &v.name, ColumnKind::Val(v.ty)))
+}
+
+/// Whether a name stands for one thing in one type and for another in the other.
+#[tactic(auto, using(lara_data::specs::TypeRuleLaws::any_column), unfolding(lara_data::specs::TypeRules::types_differ))]
 pub fn types_differ(a: &TableType, b: &TableType) -> bool
     ensures { result ≡ types_differ a.now b.now }
 {
-    if keys_differ(b, a.keys.as_slice()) {
-        return true;
-    }
-    vals_differ(b, a.vals.as_slice())
+    keys_clash(b, a.keys.as_slice()) || vals_clash(b, a.vals.as_slice())
 }

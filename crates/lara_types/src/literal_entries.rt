@@ -1,10 +1,12 @@
 //! The entries of a literal: as many literals as columns, of their kinds and in their ranges. The rules are looked at before
 //! anything is made of an entry.
-ghost use Rattle.std.specs.Prelude.{◌≡◌, [], ◌++◌, ◌∷◌, length, map, true, IfOk};
+ghost use Rattle.std.specs.Prelude.{◌≡◌, [], ◌++◌, ◌∷◌, length, map, true, false, IfOk, IfErr, IsOk, IsSome};
+ghost use Rattle.lara_key.specs.Keys.{key_holds_text};
 ghost use Rattle.lara_semiring.specs.Rows.{row_has};
+ghost use Rattle.lara_semiring.specs.ValueSemirings.{holds_text};
 ghost use Rattle.lara_data.specs.KeyedTables.{all_have};
 ghost use Rattle.lara_data.specs.TableTypes.{types};
-ghost use Rattle.lara_data.specs.Judgements.{Judges};
+ghost use Rattle.lara_data.specs.Judgements.{Judges, NotMemory};
 ghost use Rattle.lara_types.specs.Literals.{is_key_lit, is_val_lit, is_in_range, is_whole};
 ghost use Rattle.lara_types.specs.LiteralValues.{key_value, row_value, key_values, row_values, entry_value};
 ghost use Rattle.lara_types.specs.NodeRules.{key_kind_rules, val_kind_rules, range_rules, entry_rules, entries_rules};
@@ -142,29 +144,36 @@ fn entry_refusal(ty: &TableType, entry: &AstEntry) -> Option<Refusal>
     }
 }
 
-// The key value of a literal; of one of another kind it is some value.
-fn key_of(ty: KeyType, value: &AstValue) -> KeyVal
-    ensures { result ≡ key_value ty value.now }
+// The key value of a literal; of one of another kind it is some value. Only a text takes memory.
+fn key_of(_alloc: Global, ty: KeyType, value: &AstValue) -> Result<KeyVal, AllocError>
+    ensures same { IfOk result (λ k. k ≡ key_value ty value.now) }
+    ensures exact { key_holds_text (key_value ty value.now) ≡ false → IsOk result }
 {
     match (ty, value) {
-        (KeyType::Nat, AstValue::Number(n)) => KeyVal::Nat(*n),
-        (KeyType::Nat, _) => KeyVal::Nat(0),
+        (KeyType::Nat, AstValue::Number(n)) => Ok(KeyVal::Nat(*n)),
+        (KeyType::Nat, _) => Ok(KeyVal::Nat(0)),
     }
 }
 
-// The value of a literal; of one of another kind it is some value.
-fn value_of(ty: ValType, value: &AstValue) -> Value
-    ensures { result ≡ row_value ty value.now }
+// The value of a literal; of one of another kind it is some value. Only a text takes memory.
+fn value_of(_alloc: Global, ty: ValType, value: &AstValue) -> Result<Value, AllocError>
+    ensures same { IfOk result (λ v. v ≡ row_value ty value.now) }
+    ensures exact { holds_text (row_value ty value.now) ≡ false → IsOk result }
 {
     match (ty, value) {
-        (ValType::Count, AstValue::Number(n)) => Value::Count(*n),
-        (ValType::Count, _) => Value::Count(0),
+        (ValType::Count, AstValue::Number(n)) => Ok(Value::Count(*n)),
+        (ValType::Count, _) => Ok(Value::Count(0)),
     }
 }
 
 // The key values behind those that are read.
 #[tactic(auto, using(crate::proofs::EntryValues::behind_rules), unfolding(crate::specs::LiteralValues::key_values))]
-fn keys_from(done: Tuple, cols: &[KeyCol], lits: &[AstLit]) -> Result<Tuple, AllocError>
+fn keys_from(
+    alloc: Global,
+    done: Tuple,
+    cols: &[KeyCol],
+    lits: &[AstLit],
+) -> Result<Tuple, AllocError>
     ensures { IfOk result (λ k. k ≡ done ++ key_values cols.now lits.now) }
 {
     let [col, cols @ ..] = cols else {
@@ -174,13 +183,13 @@ fn keys_from(done: Tuple, cols: &[KeyCol], lits: &[AstLit]) -> Result<Tuple, All
         return Ok(done);
     };
     let mut done = done;
-    done.push(key_of(col.ty, &lit.value))?;
-    keys_from(done, cols, lits)
+    done.push(key_of(alloc, col.ty, &lit.value)?)?;
+    keys_from(alloc, done, cols, lits)
 }
 
 // The values behind those that are read.
 #[tactic(auto, using(crate::proofs::EntryValues::behind_rules), unfolding(crate::specs::LiteralValues::row_values))]
-fn vals_from(done: Row, cols: &[ValCol], lits: &[AstLit]) -> Result<Row, AllocError>
+fn vals_from(alloc: Global, done: Row, cols: &[ValCol], lits: &[AstLit]) -> Result<Row, AllocError>
     ensures { IfOk result (λ r. r ≡ done ++ row_values cols.now lits.now) }
 {
     let [col, cols @ ..] = cols else {
@@ -190,23 +199,34 @@ fn vals_from(done: Row, cols: &[ValCol], lits: &[AstLit]) -> Result<Row, AllocEr
         return Ok(done);
     };
     let mut done = done;
-    done.push(value_of(col.ty, &lit.value))?;
-    vals_from(done, cols, lits)
+    done.push(value_of(alloc, col.ty, &lit.value)?)?;
+    vals_from(alloc, done, cols, lits)
 }
 
 // The key and the row of an entry.
 fn values_of(alloc: Global, ty: &TableType, entry: &AstEntry) -> Result<Entry, AllocError>
     ensures { IfOk result (λ e. e ≡ entry_value ty.now entry.now) }
 {
-    let key = keys_from(List::new(alloc), ty.keys.as_slice(), entry.key.as_slice())?;
-    let row = vals_from(List::new(alloc), ty.vals.as_slice(), entry.row.as_slice())?;
+    let key = keys_from(
+        alloc,
+        List::new(alloc),
+        ty.keys.as_slice(),
+        entry.key.as_slice(),
+    )?;
+    let row = vals_from(
+        alloc,
+        List::new(alloc),
+        ty.vals.as_slice(),
+        entry.row.as_slice(),
+    )?;
     Ok(Entry { key, row })
 }
 
-// An entry of a literal.
+// An entry of a literal. Its rules are looked at before anything is made, so a broken one is never answered by want of memory.
 fn entry_of(alloc: Global, ty: &TableType, entry: &AstEntry) -> Result<Entry, ReadFault>
     ensures gives { Judges (λ e. e) (by_rules (entry_rules ty.now entry.now) (entry_value ty.now entry.now)) result }
     ensures typed { IfOk result (λ e. row_has (types ty.now.vals) e.row ≡ true) }
+    ensures sure { IsSome (first_broken (entry_rules ty.now entry.now)) → IfErr result NotMemory }
 {
     match entry_refusal(ty, entry) {
         Some(refusal) => Err(ReadFault::Refused(refusal)),

@@ -7,7 +7,8 @@ ghost use Rattle.lara_data.specs.Fits.{ScriptFits, TablesOf};
 ghost use Rattle.lara_data.specs.Names.{distinct};
 ghost use Rattle.lara_data.specs.Plugins.{handed};
 ghost use Rattle.lara_data.specs.TypedScripts.{known_after};
-ghost use Rattle.lara_types.specs.Checks.{checked_statement, checked};
+ghost use Rattle.lara_data.specs.TypedTrees.{type_named};
+ghost use Rattle.lara_types.specs.Checks.{printed, kept, checked_statement, checked};
 ghost use Rattle.lara_types.specs.HasTypes.{HasTypes};
 ghost use Rattle.lara_types.specs.Refused.{Refused as WhyRefused, RefusedRight};
 ghost use Rattle.lara_data.specs.Judgements.{Judges};
@@ -26,12 +27,13 @@ fn assign(
     alloc: Global,
     stored: &List<Schema>,
     known: &List<Schema>,
+    plugins: &Vec<Box<dyn Plugin>>,
     name: &AstName,
     node: &AstNode,
 ) -> Result<Statement, ReadFault>
-    ensures { (at : ℕ) → Judges (λ s. s) (checked_statement stored.now known.now (AstStatement.Assign at name.now node.now)) result }
+    ensures { (at : ℕ) → Judges (λ s. s) (checked_statement (handed ⟦<dyn Plugin as Plugin>⟧ plugins.now.items) stored.now known.now (AstStatement.Assign at name.now node.now)) result }
 {
-    let node = node_of(alloc, stored, known, node)?;
+    let node = node_of(alloc, stored, known, plugins, node)?;
     Ok(Statement::Assign(name.name.copy(alloc)?, node))
 }
 
@@ -42,7 +44,7 @@ fn print(
     name: &AstName,
     by: &Option<AstBy>,
 ) -> Result<Statement, ReadFault>
-    ensures { (stored : List Schema) (at : ℕ) → Judges (λ s. s) (checked_statement stored known.now (AstStatement.Print at name.now by.now)) result }
+    ensures { Judges (λ s. s) (printed name.now (type_named name.now.name known.now) by.now) result }
 {
     let ty = known_type(known, name, Kind::NoName)?;
     let order = order_of(alloc, ty, by)?;
@@ -56,7 +58,7 @@ fn store(
     old: &AstName,
     new: &AstName,
 ) -> Result<Statement, ReadFault>
-    ensures { (stored : List Schema) (at : ℕ) → Judges (λ s. s) (checked_statement stored known.now (AstStatement.Store at old.now new.now)) result }
+    ensures { Judges (λ s. s) (kept old.now (type_named old.now.name known.now) new.now) result }
 {
     known_type(known, old, Kind::NoName)?;
     let old = old.name.copy(alloc)?;
@@ -68,12 +70,15 @@ fn statement_of(
     alloc: Global,
     stored: &List<Schema>,
     known: &List<Schema>,
+    plugins: &Vec<Box<dyn Plugin>>,
     statement: &AstStatement,
 ) -> Result<Statement, ReadFault>
-    ensures { Judges (λ s. s) (checked_statement stored.now known.now statement.now) result }
+    ensures { Judges (λ s. s) (checked_statement (handed ⟦<dyn Plugin as Plugin>⟧ plugins.now.items) stored.now known.now statement.now) result }
 {
     match statement {
-        AstStatement::Assign { name, node, .. } => assign(alloc, stored, known, name, node),
+        AstStatement::Assign { name, node, .. } => assign(
+            alloc, stored, known, plugins, name, node,
+        ),
         AstStatement::Print { name, by, .. } => print(alloc, known, name, by),
         AstStatement::Store { old, new, .. } => store(alloc, known, old, new),
     }
@@ -99,14 +104,15 @@ fn learn(alloc: Global, known: &mut List<Schema>, statement: &Statement) -> Resu
 fn statements_of(
     alloc: Global,
     stored: &List<Schema>,
+    plugins: &Vec<Box<dyn Plugin>>,
     tree: &Ast,
 ) -> Result<List<Statement>, ReadFault>
-    ensures { Judges (λ ss. ss) (checked stored.now tree.now) result }
+    ensures { Judges (λ ss. ss) (checked (handed ⟦<dyn Plugin as Plugin>⟧ plugins.now.items) stored.now tree.now) result }
 {
     let mut known = List::new(alloc);
     let mut statements = List::new(alloc);
     for written in tree.statements.as_slice() {
-        let statement = statement_of(alloc, stored, &known, written)?;
+        let statement = statement_of(alloc, stored, &known, plugins, written)?;
         learn(alloc, &mut known, &statement)?;
         statements.push(statement)?;
     }
@@ -124,17 +130,17 @@ pub fn check(
     // No two stored tables have one name, as in each database.
     requires { distinct (map (λ s. s.name) stored.now) ≡ true }
     // What is answered is what the tree stands for: each node as written, its columns by the rules (specs/HasTypes.antt).
-    ensures found { IfOk result (λ ss. HasTypes stored.now tree.now ss) }
+    ensures found { IfOk result (λ ss. HasTypes (handed ⟦<dyn Plugin as Plugin>⟧ plugins.now.items) stored.now tree.now ss) }
     // Whatever the tree stands for is answered, so that no such tree is refused (specs/HasTypes.antt).
-    ensures only { (ss : List TypedStatement) → HasTypes stored.now tree.now ss → Judges (λ s. s) (Ok ss) result }
+    ensures only { (ss : List TypedStatement) → HasTypes (handed ⟦<dyn Plugin as Plugin>⟧ plugins.now.items) stored.now tree.now ss → Judges (λ s. s) (Ok ss) result }
     // A refusal is that of the first rule that is broken, at the first node of the first statement that has one
     // (specs/Refused.antt; in words the table under "Refusals" in docs/LANGUAGE.md).
-    ensures refused { IfErr result (λ e. RefusedRight stored.now tree.now e) }
+    ensures refused { IfErr result (λ e. RefusedRight (handed ⟦<dyn Plugin as Plugin>⟧ plugins.now.items) stored.now tree.now e) }
     // There is one such refusal at most, and where there is one it is answered, unless memory runs out.
-    ensures only_refusal { (refusal : Refusal) → WhyRefused stored.now tree.now refusal → Judges (λ s. s) (Err refusal) result }
+    ensures only_refusal { (refusal : Refusal) → WhyRefused (handed ⟦<dyn Plugin as Plugin>⟧ plugins.now.items) stored.now tree.now refusal → Judges (λ s. s) (Err refusal) result }
     // The same of a definition that computes (specs/Checks.antt): it follows from the four above, by specs/Found.antt, Only.antt
     // and RefusedLaws.antt.
-    ensures exact { Judges (λ s. s) (checked stored.now tree.now) result }
+    ensures exact { Judges (λ s. s) (checked (handed ⟦<dyn Plugin as Plugin>⟧ plugins.now.items) stored.now tree.now) result }
     // No statement is lost or added.
     ensures statements { IfOk result (λ ss. length ss ≡ length tree.now.statements) }
     // No node of a tree is lost or added (specs/Sizes.antt).
@@ -143,6 +149,6 @@ pub fn check(
     ensures fits { IfOk result (λ ss. (db : Database) → TablesOf stored.now db → ScriptFits (handed ⟦<dyn Plugin as Plugin>⟧ plugins.now.items) db ss) }
 {
     have_columns(stored.as_slice());
-    let statements = statements_of(alloc, stored, tree)?;
+    let statements = statements_of(alloc, stored, plugins, tree)?;
     Ok(Script { statements })
 }

@@ -1,8 +1,9 @@
 //! The typed tree of a tree with places.
-ghost use Rattle.std.specs.Prelude.{◌≡◌, None, Ok, IfOk, IfErr};
+ghost use Rattle.std.specs.Prelude.{◌≡◌, None, Ok, IfOk, IfErr, IsSome};
 ghost use Rattle.std.specs.Option.{option_copied};
 ghost use Rattle.lara_data.specs.declared.node.Node.{Node as NodeSpec};
 ghost use Rattle.lara_data.specs.Algebra.{agg_columns};
+ghost use Rattle.lara_data.specs.Plugins.{handed};
 ghost use Rattle.lara_data.specs.TypedTrees.{type_named};
 ghost use Rattle.lara_data.specs.Judgements.{Judges, NotMemory, refused};
 ghost use Rattle.lara_types.specs.CheckedTrees.{typed, columns_in, loaded, assigned, literal, joined, united, summed, checked_op};
@@ -17,12 +18,12 @@ use crate::orders::plain_names;
 use crate::refuse::refused;
 use crate::rules::{agg_type, type_join, type_union};
 use lara_base::{Boxed, Copied, List, Name};
-use lara_data::{Kind, Node, Op, ReadFault, Schema, TableType};
+use lara_data::{Kind, Node, Op, Plugin, ReadFault, Schema, TableType};
 use lara_syntax::{AstEntry, AstName, AstNode, AstOp, AstType};
 use std::alloc::Global;
 
 // The newest type of a name.
-#[tactic(auto, unfolding(lara_data::specs::TypedTrees::type_named, lara_data::specs::Names::same_name))]
+#[tactic(auto, unfolding(lara_data::specs::Newest::newest, lara_data::specs::Names::same_name))]
 fn type_named<'a>(known: &'a List<Schema>, name: &Name) -> Option<&'a TableType>
     ensures { option_copied result ≡ type_named name.now known.now }
 {
@@ -127,9 +128,10 @@ fn sum_of(alloc: Global, a: Node, keys: &List<AstName>) -> Result<Node, ReadFaul
     Ok(Node { ty, op })
 }
 
-// An agg.
+// An agg. Its rules are looked at before anything is made, so a broken one is never answered by want of memory.
 fn agg_of(alloc: Global, a: Node, keys: &List<AstName>) -> Result<Node, ReadFault>
-    ensures { Judges (λ n. n) (summed a keys.now) result }
+    ensures gives { Judges (λ n. n) (summed a keys.now) result }
+    ensures sure { IsSome (first_broken (agg_rules a.ty keys.now)) → IfErr result NotMemory }
 {
     match agg_refusal(&a.ty, keys.as_slice()) {
         Some(refusal) => Err(ReadFault::Refused(refusal)),
@@ -143,29 +145,30 @@ pub fn node_of(
     alloc: Global,
     stored: &List<Schema>,
     known: &List<Schema>,
+    plugins: &Vec<Box<dyn Plugin>>,
     node: &AstNode,
 ) -> Result<Node, ReadFault>
-    ensures { Judges (λ n. n) (checked_op stored.now known.now node.now.at node.now.op) result }
+    ensures { Judges (λ n. n) (checked_op (handed ⟦<dyn Plugin as Plugin>⟧ plugins.now.items) stored.now known.now node.now.at node.now.op) result }
 {
     match &node.op {
         AstOp::Load(name) => load_of(alloc, stored, name),
         AstOp::Named(name) => named_of(alloc, known, name),
         AstOp::Literal(ty, entries) => literal_of(alloc, node.at, ty, entries),
         AstOp::Join(a, b) => {
-            let left = node_of(alloc, stored, known, a.get())?;
-            let right = node_of(alloc, stored, known, b.get())?;
+            let left = node_of(alloc, stored, known, plugins, a.get())?;
+            let right = node_of(alloc, stored, known, plugins, b.get())?;
             join_of(alloc, node.at, left, right)
         }
         AstOp::Union(a, b) => {
-            let one = node_of(alloc, stored, known, a.get())?;
-            let other = node_of(alloc, stored, known, b.get())?;
+            let one = node_of(alloc, stored, known, plugins, a.get())?;
+            let other = node_of(alloc, stored, known, plugins, b.get())?;
             union_of(alloc, node.at, one, other)
         }
         AstOp::Agg(a, keys) => {
-            let table = node_of(alloc, stored, known, a.get())?;
+            let table = node_of(alloc, stored, known, plugins, a.get())?;
             agg_of(alloc, table, keys)
         }
-        // These have no words in the grammar yet.
+        // no words yet: these are in no script
         AstOp::Map(_, _) => Err(refused(node.at, Kind::Unexpected)),
         AstOp::Filter(_, _) => Err(refused(node.at, Kind::Unexpected)),
         AstOp::Promote(_, _) => Err(refused(node.at, Kind::Unexpected)),

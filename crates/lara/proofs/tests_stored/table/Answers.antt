@@ -10,6 +10,7 @@ use Rattle.lara_data.specs.KeyedTables.{all_have, AllKeys}
 use Rattle.lara_data.specs.TableTypes.{Columns, types, are_columns}
 use Rattle.lara_data.specs.Tables.{Entries, Table, table_of}
 use Rattle.lara_data.specs.TypedTables.{KeyHas, IsTypedTable, IsTypedTable-table_of}
+use Rattle.lara_data.specs.Names.{distinct, has, same_name}
 use Rattle.lara.proofs.tests_stored.table.Goals as goal
 
 -- the key column k and the value column v
@@ -25,7 +26,7 @@ unfolding all_have row_has has_type
 rows_typed = refl
 
 columns_are : are_columns columns.keys columns.vals ≡ true
-unfolding are_columns
+unfolding are_columns distinct has same_name
 columns_are = refl
 
 keys_typed : AllKeys (KeyHas columns.keys) entries

@@ -7,14 +7,14 @@ use Rattle.lara_types.proofs.scripts.print.Goals as goal
 pub returns-in_err-ty : goal.returns-in_err-ty
 returns-in_err-ty c =
     let p = err_from_is_err_and c.from_residual.result c.from_residual.ensures.1 in
-    λ stored at. rw (p.1, p.2) (fault_through _ _ _ (λ r e. print_unknown c.args.name.now (type_named c.args.name.now.name c.args.known.now) c.args.by.now r e) c.in_err-ty.ensures.gives)
+    rw (p.1, p.2) (fault_through _ _ _ (λ r e. print_unknown c.args.name.now (type_named c.args.name.now.name c.args.known.now) c.args.by.now r e) c.in_err-ty.ensures.gives)
 
 pub returns-in_err-order : goal.returns-in_err-order
 returns-in_err-order c =
     let p = err_from_is_err_and c.from_residual-in_err-order.result c.from_residual-in_err-order.ensures.1 in
-    λ stored at. rw (p.1, p.2) (fault_through _ _ _ (λ r e. print_stop c.args.name.now (type_named c.args.name.now.name c.args.known.now) c.args.by.now _ c.in_ok-ty.ensures.gives r e) c.in_err-order.ensures)
+    rw (p.1, p.2) (fault_through _ _ _ (λ r e. print_stop c.args.name.now (type_named c.args.name.now.name c.args.known.now) c.args.by.now _ c.in_ok-ty.ensures.gives r e) c.in_err-order.ensures)
 
 pub returns : goal.returns
 returns c =
     let made = print_made c.args.name.now (type_named c.args.name.now.name c.args.known.now) c.args.by.now _ c.in_ok-ty.ensures.gives _ c.in_ok-order.ensures in
-    λ stored at. rw c.in_ok-copy.ensures made
+    rw c.in_ok-copy.ensures made

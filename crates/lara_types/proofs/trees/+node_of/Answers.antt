@@ -5,35 +5,35 @@ use Rattle.lara_types.proofs.CheckEquations.{written_Join, written_Union, writte
 use Rattle.lara_types.proofs.trees.+node_of.Goals as goal
 
 pub node_of-requires : goal.node_of-requires
-node_of-requires t c =
+node_of-requires g t c =
     let s = written_Join c.in-Join.a c.in-Join.b in
     let e = ap written_nodes c.in-Join.is in
     let r = ap (λ (n : AstNode). written_nodes n.op) c.get.ensures in
     (omega (arith, s, e, r), tt)
 
 pub node_of-requires-in-Join : goal.node_of-requires-in-Join
-node_of-requires-in-Join t c =
+node_of-requires-in-Join g t c =
     let s = written_Join c.in-Join.a c.in-Join.b in
     let e = ap written_nodes c.in-Join.is in
     let r = ap (λ (n : AstNode). written_nodes n.op) c.get-in-Join.ensures in
     (omega (arith, s, e, r), tt)
 
 pub node_of-requires-in-Union : goal.node_of-requires-in-Union
-node_of-requires-in-Union t c =
+node_of-requires-in-Union g t c =
     let s = written_Union c.in-Union.a c.in-Union.b in
     let e = ap written_nodes c.in-Union.is in
     let r = ap (λ (n : AstNode). written_nodes n.op) c.get-in-Union.ensures in
     (omega (arith, s, e, r), tt)
 
 pub node_of-requires-in-Union-2 : goal.node_of-requires-in-Union-2
-node_of-requires-in-Union-2 t c =
+node_of-requires-in-Union-2 g t c =
     let s = written_Union c.in-Union.a c.in-Union.b in
     let e = ap written_nodes c.in-Union.is in
     let r = ap (λ (n : AstNode). written_nodes n.op) c.get-in-Union-2.ensures in
     (omega (arith, s, e, r), tt)
 
 pub node_of-requires-in-Agg : goal.node_of-requires-in-Agg
-node_of-requires-in-Agg t c =
+node_of-requires-in-Agg g t c =
     let s = written_Agg c.in-Agg.a c.in-Agg.keys in
     let e = ap written_nodes c.in-Agg.is in
     let r = ap (λ (n : AstNode). written_nodes n.op) c.get-in-Agg.ensures in

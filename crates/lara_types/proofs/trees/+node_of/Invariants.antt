@@ -3,4 +3,4 @@ use Rattle.lara_types.proofs.trees.+node_of.Given as goal
 
 -- the nodes of the tree
 abbrev pub decreases-node_of : goal.decreases-node_of
-decreases-node_of l = written_nodes l.node.now.op
+decreases-node_of g l = written_nodes l.node.now.op
