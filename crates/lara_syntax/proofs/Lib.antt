@@ -9,6 +9,7 @@ pub mod NumberLaws
 pub mod Numbers
 pub mod OneRefusal
 pub mod ParsedLaws
+pub mod Parsers
 pub mod PlainRules
 pub mod ReadLaws
 pub mod Readers

@@ -7,6 +7,7 @@ mod ast_expr;
 mod ast_part;
 mod ast_part_copy;
 mod classes;
+mod count;
 mod fault;
 mod fixed_words;
 mod item;
