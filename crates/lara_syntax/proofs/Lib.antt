@@ -35,4 +35,7 @@ pub mod WiderRules
 pub mod WordLaws
 pub mod WordReads
 pub mod WordTextLaws
+pub mod WorkedLimits
+pub mod WorkedScripts
+pub mod WorkedTokens
 pub mod WrittenLaws
