@@ -10,26 +10,30 @@ use Rattle.lara_syntax.specs.declared.item.Lexeme.TheVariants as lex
 use Rattle.lara_syntax.specs.declared.item.Keyword.TheVariants as key
 use Rattle.lara_syntax.specs.declared.item.Sign.{Sign}
 use Rattle.lara_syntax.specs.declared.item.Sign.TheVariants.{Is, Semi, Comma, Colon, OpenBracket, CloseBracket, OpenBrace, CloseBrace, Open, Close}
+use Rattle.lara_syntax.specs.declared.ast.Ast.{Ast}
 use Rattle.lara_syntax.specs.declared.ast.AstName.{AstName}
 use Rattle.lara_syntax.specs.declared.ast.AstBy.{AstBy}
 use Rattle.lara_syntax.specs.declared.ast.AstKeyCol.{AstKeyCol}
 use Rattle.lara_syntax.specs.declared.ast.AstValCol.{AstValCol}
 use Rattle.lara_syntax.specs.AstTypes.{AstColumns}
 use Rattle.lara_syntax.specs.declared.ast.AstLit.{AstLit}
+use Rattle.lara_syntax.specs.declared.ast.AstValue.{AstValue}
 use Rattle.lara_syntax.specs.declared.ast.AstEntry.{AstEntry}
 use Rattle.lara_syntax.specs.declared.ast.AstNode.{AstNode}
 use Rattle.lara_syntax.specs.declared.ast.AstOp.{AstOp}
 use Rattle.lara_syntax.specs.declared.ast.AstOp.TheVariants as op
 use Rattle.lara_syntax.specs.declared.ast.AstStatement.{AstStatement}
-use Rattle.lara_syntax.specs.Limits.{Limits}
+use Rattle.lara_syntax.specs.Limits.{Limits, none_counted, one_operator, together}
+use Rattle.lara_syntax.specs.declared.count.Count.{Count}
 use Rattle.lara_syntax.specs.Steps.{Items, Read, Reader, ◌>>=◌, give, refuse, peek, skip, items_from, head_word}
 use Rattle.lara_syntax.specs.Reading as r
 use Rattle.lara_syntax.proofs.WordTextLaws.{same_sign-refl}
-use Rattle.lara_syntax.specs.Reading.{sign, sign_by, comma_by, node, Counted}
-use Rattle.lara_syntax.specs.Grammar.{Word, word, Mark, Named, Lit, number, KeyTyped, nat, ValTyped, count, Many, none, more, CommaThen, comma_then, Commas, commas, Maybe, nothing, just, KeyCol, key_col, ValCol, val_col, TypeOf, columns, Entry, entry, SemiEntry, semi_entry, SomeSemi, no_semi, semi, Entries, entries, Leaf, named, load, literal, Operand, leaf, inside, Table, join, union, agg, operand, SomeOrder, no_order, order, Statement, assign, print, Script}
+use Rattle.lara_syntax.specs.Places.{node}
+use Rattle.lara_syntax.specs.Reading.{sign, sign_by, comma_by, Counted}
+use Rattle.lara_syntax.specs.Grammar.{Word, word, Mark, Named, IsLiteral, number, Lit, lit, KeyTyped, nat, ValTyped, count, Many, none, more, CommaThen, comma_then, Commas, commas, Maybe, nothing, just, KeyCol, key_col, ValCol, val_col, TypeOf, columns, Entry, entry, SemiEntry, semi_entry, SomeSemi, no_semi, semi, Entries, entries, Leaf, named, load, literal, Operand, leaf, inside, Table, join, union, agg, operand, SomeOrder, no_order, order, Statement, assign, print, Script}
 use Rattle.lara_syntax.proofs.Levels.{inside_rest}
 use Rattle.lara_syntax.proofs.Turns.{TakesOne, read_of, items-some, items-none}
-use Rattle.lara_syntax.proofs.RuleReaders.{comma_name-one, comma_key_col-one, comma_val_col-one, comma_lit-one, semi_entry-one, has_room, next_behind, statements-some, statements-none}
+use Rattle.lara_syntax.proofs.RuleReaders.{comma_name-one, comma_key_col-one, comma_val_col-one, comma_lit-one, semi_entry-one, has_room, next_behind, tree_given, statements-some, statements-none}
 
 -- ---- one word
 
@@ -55,9 +59,12 @@ pub name_reads : (x : AstName) (ts us : Items) → Named x ts us → r.name ts �
 unfolding r.name
 name_reads x ts us h = chosen r.name_by ts (Some (lex.Name x.name)) (read_of x us) (head_is _ x.at ts us h) (rw (skip_is _ x.at ts us h) refl)
 
+literal_is : (w : Lexeme) (v : AstValue) → IsLiteral w v → r.literal_of w ≡ Some v
+literal_is w v (number n) = refl
+
 lit_reads : (x : AstLit) (ts us : Items) → Lit x ts us → r.lit ts ≡ read_of x us
 unfolding r.lit
-lit_reads x ts us (number at n a b h) = chosen r.lit_by a (Some (lex.Number n)) (read_of _ b) (head_is _ at a b h) (rw (skip_is _ at a b h) refl)
+lit_reads x ts us (lit at w v a b l h) = chosen r.lit_by a (Some w) (read_of _ b) (head_is _ at a b h) (ap (λ (o : Option AstValue). r.lit_of o a) (literal_is w v l) ∙ rw (skip_is _ at a b h) refl)
 
 key_type_reads : (x : KeyType) (ts us : Items) → KeyTyped x ts us → r.key_type ts ≡ read_of x us
 unfolding r.key_type
@@ -181,24 +188,27 @@ lits_reads : (xs : List AstLit) (ts rest : Items) → Commas Lit xs ts rest → 
 unfolding r.lits r.comma_lit
 lits_reads xs ts rest h after = commas_reads Lit r.lit lit_reads comma_lit-one xs ts rest h after
 
-lits_head : (xs : List AstLit) (ts rest : Items) → Commas Lit xs ts rest → (n : ℕ) × (head_word ts ≡ Some (lex.Number n))
-lits_head xs ts rest (commas x ys a b c (number at n a' b' h) k) = (n, head_is _ at a' b' h)
+lits_head : (xs : List AstLit) (ts rest : Items) → Commas Lit xs ts rest → (w : Lexeme) × (v : AstValue) × IsLiteral w v × (head_word ts ≡ Some w)
+lits_head xs ts rest (commas x ys a b c (lit at w v a' b' l h) k) = (w, v, l, head_is _ at a' b' h)
 
 some_lits_reads : (xs : List AstLit) (ts rest : Items) → Maybe (Commas Lit) xs ts rest → Next Colon rest → r.some_lits ts ≡ read_of xs rest
 unfolding r.some_lits
 some_lits_reads xs ts rest (nothing q) after = chosen r.some_lits_by q (Some (lex.Sign Colon)) (read_of [] q) after refl
 some_lits_reads xs ts rest (just ys a c h) after =
     let n = lits_head ys a c h in
-    chosen r.some_lits_by a (Some (lex.Number n.0)) (read_of ys c) n.1 (lits_reads ys a c h (next_no_comma (head_word c) Colon after tt))
+    chosen r.some_lits_by a (Some n.0) (read_of ys c) n.3 (ap (λ (o : Option AstValue). r.at_literal r.lits (give []) o a) (literal_is n.0 n.1 n.2) ∙ lits_reads ys a c h (next_no_comma (head_word c) Colon after tt))
 
 pub entry_reads : (x : AstEntry) (ts us : Items) → Entry x ts us → NoComma (head_word us) → r.entry ts ≡ read_of x us
 unfolding r.entry
 entry_reads x ts us (entry c ks row a b d e h k l) after = rw (some_lits_reads ks a b h (head_is _ c b d k), sign_reads Colon c b d k, lits_reads row d e l after) refl
 
+entry_at : (w : Lexeme) (v : AstValue) (ts : Items) → IsLiteral w v → r.entry_here_by (Some w) ts ≡ r.an_entry ts
+entry_at w v ts (number n) = refl
+
 -- an entry begins with a literal or with `:`
 entry_begins : (x : AstEntry) (ts us : Items) → Entry x ts us → (y : Read (Option AstEntry)) → ((w : Option Lexeme) → r.entry_here_by w ts ≡ (r.entry >>= λ e. give (Some e)) ts → head_word ts ≡ w → (r.entry_here_by (head_word ts) ts ≡ y)) → r.entry_here_by (head_word ts) ts ≡ y
 entry_begins x ts us (entry c ks row a b d e (nothing q) k l) y f = f (Some (lex.Sign Colon)) refl (head_is _ c b d k)
-entry_begins x ts us (entry c ks row a b d e (just ys a' c' h) k l) y f = let n = lits_head ys a' c' h in f (Some (lex.Number n.0)) refl n.1
+entry_begins x ts us (entry c ks row a b d e (just ys a' c' h) k l) y f = let n = lits_head ys a' c' h in f (Some n.0) (entry_at n.0 n.1 ts n.2) n.3
 
 pub entry_here_reads : (x : AstEntry) (ts us : Items) → Entry x ts us → NoComma (head_word us) → r.entry_here ts ≡ read_of (Some x) us
 unfolding r.entry_here
@@ -254,7 +264,7 @@ leaf_chosen by x ts us (load at n a b c h l) y f g k = chosen by a (Some (lex.Ke
 leaf_chosen by x ts us (literal at a b ty es t1 t2 t3 t4 t5 t6 h1 h2 h3 h4 h5) y f g k = chosen by t1 (Some (lex.Key key.Table)) y (head_is _ at t1 t2 h1) k
 
 -- what a choice does where an operand is next
-operand_chosen : {A : Type 0} (by : Option Lexeme → Reader A) (d n : ℕ) (x : AstNode) (ts us : Items) → Operand d n x ts us → (y : Read A)
+operand_chosen : {A : Type 0} (by : Option Lexeme → Reader A) (d : ℕ) (n : Count) (x : AstNode) (ts us : Items) → Operand d n x ts us → (y : Read A)
     → ((n : List ℕ) → by (Some (lex.Name n)) ts ≡ y) → by (Some (lex.Key key.Load)) ts ≡ y → by (Some (lex.Key key.Table)) ts ≡ y → by (Some (lex.Sign Open)) ts ≡ y → (peek >>= by) ts ≡ y
 operand_chosen by d n x ts us (leaf e y a b h) z f g k l = leaf_chosen by y a b h z f g k
 operand_chosen by d n x ts us (inside e m a b y t1 t2 t3 t4 h1 h2 h3) z f g k l = chosen by t1 (Some (lex.Sign Open)) z (head_is _ a t1 t2 h1) l
@@ -266,32 +276,38 @@ by_word_reads at ts us h = chosen r.by_word_by ts (Some (lex.Key key.By)) (read_
 room_for : (m n : ℕ) → m < n → nat_lt m n ≡ true
 room_for m n h = lt-ltb m n h
 
-operator_reads : (limit taken : ℕ) (w : Lexeme) (at : ℕ) (ts us : Items) → Word w at ts us → taken < limit → r.operator_word limit taken ts ≡ read_of at us
+operator_reads : (limit taken : Count) (w : Lexeme) (at : ℕ) (ts us : Items) → Word w at ts us → taken.operators < limit.operators → r.operator_word limit taken ts ≡ read_of at us
 unfolding r.operator_word
-operator_reads limit taken w at ts us h lt = ap (λ (b : Bool). cond b skip (refuse TooMany) ts) (room_for taken limit lt) ∙ skip_is w at ts us h
+operator_reads limit taken w at ts us h lt = ap (λ (b : Bool). cond b skip (refuse TooMany) ts) (room_for taken.operators limit.operators lt) ∙ skip_is w at ts us h
 
-operator_goes : {B : Type 0} (limit taken : ℕ) (w : Lexeme) (at : ℕ) (ts us : Items) → Word w at ts us → taken < limit → (f : ℕ → Reader B) (y : Read B) → f at us ≡ y → (r.operator_word limit taken >>= f) ts ≡ y
+operator_goes : {B : Type 0} (limit taken : Count) (w : Lexeme) (at : ℕ) (ts us : Items) → Word w at ts us → taken.operators < limit.operators → (f : ℕ → Reader B) (y : Read B) → f at us ≡ y → (r.operator_word limit taken >>= f) ts ≡ y
 operator_goes limit taken w at ts us h lt f y g = step (r.operator_word limit taken) f ts at us y (operator_reads limit taken w at ts us h lt) g
 
-two_goes : (what : AstNode → AstNode → AstOp) (o : ℕ → Reader Counted) (k i j at : ℕ) (a b : AstNode) (ts us vs : Items) → o (k + 1) ts ≡ read_of (a, i) us → o i us ≡ read_of (b, j) vs → r.two_by what o k at ts ≡ read_of (node at (what a b), j) vs
+two_goes : (what : AstNode → AstNode → AstOp) (o : Count → Reader Counted) (k i j : Count) (at : ℕ) (a b : AstNode) (ts us vs : Items) → o (one_operator k) ts ≡ read_of (a, i) us → o i us ≡ read_of (b, j) vs → r.two_by what o k at ts ≡ read_of (node at (what a b), j) vs
 two_goes what o k i j at a b ts us vs h g =
-    step (o (k + 1)) (λ x. o x.1 >>= λ y. give (node at (what x.0 y.0), y.1)) ts (a, i) us (read_of (node at (what a b), j) vs) h
+    step (o (one_operator k)) (λ x. o x.1 >>= λ y. give (node at (what x.0 y.0), y.1)) ts (a, i) us (read_of (node at (what a b), j) vs) h
     (step (o i) (λ y. give (node at (what a y.0), y.1)) us (b, j) vs (read_of (node at (what a b), j) vs) g refl)
 
-agg_goes : (o : ℕ → Reader Counted) (k j at by : ℕ) (a : AstNode) (ns : List AstName) (ts us vs rest : Items) → o (k + 1) ts ≡ read_of (a, j) us → r.by_word us ≡ read_of by vs → r.some_names vs ≡ read_of ns rest → r.agg_by o k at ts ≡ read_of (node at (op.Agg a ns), j) rest
+agg_goes : (o : Count → Reader Counted) (k j : Count) (at by : ℕ) (a : AstNode) (ns : List AstName) (ts us vs rest : Items) → o (one_operator k) ts ≡ read_of (a, j) us → r.by_word us ≡ read_of by vs → r.some_names vs ≡ read_of ns rest → r.agg_by o k at ts ≡ read_of (node at (op.Agg a ns), j) rest
 agg_goes o k j at by a ns ts us vs rest h g l =
-    step (o (k + 1)) (λ x. r.by_word >>= λ b. r.some_names >>= λ ms. give (node at (op.Agg x.0 ms), x.1)) ts (a, j) us (read_of (node at (op.Agg a ns), j) rest) h
+    step (o (one_operator k)) (λ x. r.by_word >>= λ b. r.some_names >>= λ ms. give (node at (op.Agg x.0 ms), x.1)) ts (a, j) us (read_of (node at (op.Agg a ns), j) rest) h
     (step r.by_word (λ b. r.some_names >>= λ ms. give (node at (op.Agg a ms), j)) us by vs (read_of (node at (op.Agg a ns), j) rest) g
     (step r.some_names (λ ms. give (node at (op.Agg a ms), j)) vs ns rest (read_of (node at (op.Agg a ns), j) rest) l refl))
 
--- behind k operator words there are j with those of the table
+same_count : (a b : Count) → a.operators ≡ b.operators → a ≡ b
+same_count a b e = ap count_of e
+  where
+    count_of : ℕ → Count
+    count_of n = record { operators = n }
+
+-- where k was counted before, j is with what the table has
 mutual
   unfolding r.operand r.table r.inside
 
-  operand_reads : (limit d n : ℕ) (x : AstNode) (ts us : Items) → Operand d n x ts us → (k j : ℕ) → j ≡ k + n → j ≤ limit → r.operand limit d k ts ≡ read_of (x, j) us
+  operand_reads : (limit : Count) (d : ℕ) (n : Count) (x : AstNode) (ts us : Items) → Operand d n x ts us → (k j : Count) → j.operators ≡ k.operators + n.operators → j.operators ≤ limit.operators → r.operand limit d k ts ≡ read_of (x, j) us
   operand_reads limit d n x ts us (leaf e y a b h) k j total le =
-      let same : k ≡ j = omega (arith, total) in
-      let read : (r.leaf >>= λ z. give (z, k)) a ≡ read_of (y, j) b = step r.leaf (λ z. give (z, k)) a y b (read_of (y, j) b) (leaf_reads y a b h) (ap (λ (q : ℕ). read_of (y, q) b) same) in
+      let same : k ≡ j = same_count k j (omega (arith, total)) in
+      let read : (r.leaf >>= λ z. give (z, k)) a ≡ read_of (y, j) b = step r.leaf (λ z. give (z, k)) a y b (read_of (y, j) b) (leaf_reads y a b h) (ap (λ (q : Count). read_of (y, q) b) same) in
       leaf_chosen (r.operand_by (r.inside limit e) k) y a b h (read_of (y, j) b) (λ m. read) read read
   operand_reads limit d n x ts us (inside e m a b y t1 t2 t3 t4 h1 h2 h3) k j total le =
       chosen (r.operand_by (r.inside limit (suc e)) k) t1 (Some (lex.Sign Open)) (read_of (y, j) t4) (head_is _ a t1 t2 h1)
@@ -299,19 +315,19 @@ mutual
       (step (r.table limit e k) (λ z. sign Close >>= λ end. give z) t2 (y, j) t3 (read_of (y, j) t4) (table_reads limit e m y t2 t3 h2 k j total le (subst AfterNames (sym (head_is _ b t3 t4 h3)) tt))
       (step (sign Close) (λ end. give (y, j)) t3 b t4 (read_of (y, j) t4) (sign_reads Close b t3 t4 h3) refl)))
 
-  table_reads : (limit d n : ℕ) (x : AstNode) (ts us : Items) → Table d n x ts us → (k j : ℕ) → j ≡ k + n → j ≤ limit → AfterNames (head_word us) → r.table limit d k ts ≡ read_of (x, j) us
+  table_reads : (limit : Count) (d : ℕ) (n : Count) (x : AstNode) (ts us : Items) → Table d n x ts us → (k j : Count) → j.operators ≡ k.operators + n.operators → j.operators ≤ limit.operators → AfterNames (head_word us) → r.table limit d k ts ≡ read_of (x, j) us
   table_reads limit d n x ts us (join e l m at a b t1 t2 t3 t4 h1 h2 h3) k j total le after =
       chosen (r.table_by limit (r.operand limit e) k) t1 (Some (lex.Key key.Join)) (read_of _ t4) (head_is _ at t1 t2 h1)
       (operator_goes limit k _ at t1 t2 h1 (omega (arith, total, le)) (r.two_by op.Join (r.operand limit e) k) (read_of _ t4)
-      (two_goes op.Join (r.operand limit e) k (k + 1 + l) j at a b t2 t3 t4 (operand_reads limit e l a t2 t3 h2 (k + 1) (k + 1 + l) refl (omega (arith, total, le))) (operand_reads limit e m b t3 t4 h3 (k + 1 + l) j (omega (arith, total)) le)))
+      (two_goes op.Join (r.operand limit e) k (together (one_operator k) l) j at a b t2 t3 t4 (operand_reads limit e l a t2 t3 h2 (one_operator k) (together (one_operator k) l) refl (omega (arith, total, le))) (operand_reads limit e m b t3 t4 h3 (together (one_operator k) l) j (omega (arith, total)) le)))
   table_reads limit d n x ts us (union e l m at a b t1 t2 t3 t4 h1 h2 h3) k j total le after =
       chosen (r.table_by limit (r.operand limit e) k) t1 (Some (lex.Key key.Union)) (read_of _ t4) (head_is _ at t1 t2 h1)
       (operator_goes limit k _ at t1 t2 h1 (omega (arith, total, le)) (r.two_by op.Union (r.operand limit e) k) (read_of _ t4)
-      (two_goes op.Union (r.operand limit e) k (k + 1 + l) j at a b t2 t3 t4 (operand_reads limit e l a t2 t3 h2 (k + 1) (k + 1 + l) refl (omega (arith, total, le))) (operand_reads limit e m b t3 t4 h3 (k + 1 + l) j (omega (arith, total)) le)))
+      (two_goes op.Union (r.operand limit e) k (together (one_operator k) l) j at a b t2 t3 t4 (operand_reads limit e l a t2 t3 h2 (one_operator k) (together (one_operator k) l) refl (omega (arith, total, le))) (operand_reads limit e m b t3 t4 h3 (together (one_operator k) l) j (omega (arith, total)) le)))
   table_reads limit d n x ts us (agg e m at by a ns t1 t2 t3 t4 t5 h1 h2 h3 h4) k j total le after =
       chosen (r.table_by limit (r.operand limit e) k) t1 (Some (lex.Key key.Agg)) (read_of _ t5) (head_is _ at t1 t2 h1)
       (operator_goes limit k _ at t1 t2 h1 (omega (arith, total, le)) (r.agg_by (r.operand limit e) k) (read_of _ t5)
-      (agg_goes (r.operand limit e) k j at by a ns t2 t3 t4 t5 (operand_reads limit e m a t2 t3 h2 (k + 1) j (omega (arith, total)) le) (by_word_reads by t3 t4 h3) (some_names_reads ns t4 t5 h4 after)))
+      (agg_goes (r.operand limit e) k j at by a ns t2 t3 t4 t5 (operand_reads limit e m a t2 t3 h2 (one_operator k) j (omega (arith, total)) le) (by_word_reads by t3 t4 h3) (some_names_reads ns t4 t5 h4 after)))
   table_reads limit d n x ts us (operand e m y a b h) k j total le after =
       let read = operand_reads limit e m y a b h k j total le in
       operand_chosen (r.table_by limit (r.operand limit e) k) e m y a b h (read_of (y, j) b) (λ q. read) read read read
@@ -328,7 +344,7 @@ pub statement_reads : (limits : Limits) (x : AstStatement) (ts us : Items) → S
 unfolding r.statement
 statement_reads limits x ts us (assign a b m n t t1 t2 t3 t4 t5 h1 h2 h3 le h4) =
     chosen (r.statement_by limits) t1 (Some (lex.Name n.name)) (read_of _ t5) (head_is _ n.at t1 t2 h1)
-    (rw (name_reads n t1 t2 h1, sign_reads Is a t2 t3 h2, table_reads limits.operators limits.levels m t t3 t4 h3 0 m (omega arith) le (subst AfterNames (sym (head_is _ b t4 t5 h4)) tt), sign_reads Semi b t4 t5 h4) refl)
+    (rw (name_reads n t1 t2 h1, sign_reads Is a t2 t3 h2, table_reads limits.counted limits.levels m t t3 t4 h3 none_counted m (omega arith) le (subst AfterNames (sym (head_is _ b t4 t5 h4)) tt), sign_reads Semi b t4 t5 h4) refl)
 statement_reads limits x ts us (print at b n by t1 t2 t3 t4 t5 h1 h2 h3 h4) =
     chosen (r.statement_by limits) t1 (Some (lex.Key key.Print)) (read_of _ t5) (head_is _ at t1 t2 h1)
     (rw (skip_is _ at t1 t2 h1, name_reads n t2 t3 h2, some_order_reads by t3 t4 h3 (head_is _ b t4 t5 h4), sign_reads Semi b t4 t5 h4) refl)
@@ -355,6 +371,6 @@ statements_go limits xs ts rest (more x ys a b c h hs) e acc le =
     ∙ statements_go limits ys b c hs e (acc ++ x ∷ []) (omega (arith, le, length-append acc (x ∷ [])))
     ∙ ap (λ q. read_of q []) (append_assoc acc (x ∷ []) ys)
 
-pub script_reads : (limits : Limits) (xs : List AstStatement) (ts : Items) → Script limits xs ts → r.script limits ts ≡ read_of xs []
+pub script_reads : (limits : Limits) (tree : Ast) (ts : Items) → Script limits tree ts → r.script limits ts ≡ read_of tree []
 unfolding r.script
-script_reads limits xs ts h = statements_go limits xs ts [] h.0 refl [] (omega (arith, h.1))
+script_reads limits tree ts h = step (r.statements limits []) tree_given ts tree.statements [] (read_of tree []) (statements_go limits tree.statements ts [] h.0 refl [] (omega (arith, h.1))) refl

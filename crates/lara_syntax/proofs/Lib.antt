@@ -9,6 +9,7 @@ pub mod NumberLaws
 pub mod Numbers
 pub mod OneRefusal
 pub mod ParsedLaws
+pub mod Parsers
 pub mod PlainRules
 pub mod ReadLaws
 pub mod Readers
@@ -34,4 +35,7 @@ pub mod WiderRules
 pub mod WordLaws
 pub mod WordReads
 pub mod WordTextLaws
+pub mod WorkedLimits
+pub mod WorkedScripts
+pub mod WorkedTokens
 pub mod WrittenLaws

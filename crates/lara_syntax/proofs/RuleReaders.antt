@@ -1,5 +1,5 @@
 -- Each rule is a reader, and what takes a word.
-use Rattle.std.proofs.Common.{◌≡◌, ℕ, zero, suc, ◌+◌, ◌<◌, List, [], ◌∷◌, ◌++◌, length, Option, Some, None, Ok, ap, arith, Bool, true, false, cond, nat_lt}
+use Rattle.std.proofs.Common.{◌≡◌, ℕ, zero, suc, ◌<◌, List, [], ◌∷◌, ◌++◌, length, Option, Some, None, Ok, ap, arith, Bool, true, false, cond, nat_lt}
 use Rattle.lara_syntax.specs.declared.item.Lexeme.{Lexeme}
 use Rattle.lara_syntax.specs.declared.item.Lexeme.TheVariants as lex
 use Rattle.lara_syntax.specs.declared.item.Keyword.TheVariants as key
@@ -7,17 +7,20 @@ use Rattle.lara_syntax.specs.declared.item.Sign.{Sign}
 use Rattle.lara_syntax.specs.declared.item.Sign.TheVariants.{Is, Semi, Comma, Colon, OpenBracket, CloseBracket, OpenBrace, CloseBrace, Open, Close}
 use Rattle.lara_data.specs.declared.refusal.Kind.TheVariants.{Unexpected, TooMany}
 use Rattle.lara_syntax.specs.declared.fault.Fault.{Fault}
+use Rattle.lara_syntax.specs.declared.ast.Ast.{Ast}
 use Rattle.lara_syntax.specs.declared.ast.AstName.{AstName}
 use Rattle.lara_syntax.specs.declared.ast.AstEntry.{AstEntry}
+use Rattle.lara_syntax.specs.declared.ast.AstValue.{AstValue}
 use Rattle.lara_syntax.specs.declared.ast.AstNode.{AstNode}
 use Rattle.lara_syntax.specs.declared.ast.AstOp.{AstOp}
 use Rattle.lara_syntax.specs.declared.ast.AstOp.TheVariants as op
 use Rattle.lara_syntax.specs.declared.ast.AstStatement.{AstStatement}
 use Rattle.lara_syntax.specs.declared.ast.AstStatement.TheVariants as st
 use Rattle.std.proofs.lemmas.List.{length-append}
-use Rattle.lara_syntax.specs.Limits.{Limits}
+use Rattle.lara_syntax.specs.Limits.{Limits, none_counted, one_operator}
+use Rattle.lara_syntax.specs.declared.count.Count.{Count}
 use Rattle.lara_syntax.specs.Steps.{Items, Reader, ◌>>=◌, give, refuse, peek, skip, items_from, head_word, Fails}
-use Rattle.lara_syntax.specs.Reading.{sign, sign_by, name, name_by, key_type, key_type_by, val_type, val_type_by, lit, lit_by, comma_by, comma_then, comma_name, some_names, some_names_by, key_col, comma_key_col, some_key_cols, some_key_cols_by, val_col, comma_val_col, val_cols, table_type, comma_lit, lits, some_lits, some_lits_by, entry, entry_here, entry_here_by, semi_entry, semi_entry_by, entries_from, some_entries, leaf, leaf_by, Counted, operand_by, operand_with, by_word, by_word_by, operator_word, two_by, agg_by, table_by, table_with, inside, operand, table, some_order, some_order_by, statement, statement_by, no_room, next_by, next_statement, statements, script}
+use Rattle.lara_syntax.specs.Reading.{sign, sign_by, name, name_by, key_type, key_type_by, val_type, val_type_by, next_literal, at_literal, lit_of, lit, lit_by, comma_by, comma_then, comma_name, some_names, some_names_by, key_col, comma_key_col, some_key_cols, some_key_cols_by, val_col, comma_val_col, val_cols, table_type, comma_lit, lits, some_lits, some_lits_by, entry, an_entry, entry_here, entry_here_by, semi_entry, semi_entry_by, entries_from, some_entries, leaf, leaf_by, Counted, operand_by, operand_with, by_word, by_word_by, operator_word, two_by, agg_by, table_by, table_with, inside, operand, table, some_order, some_order_by, statement, statement_by, no_room, next_by, next_statement, statements, tree_of, script}
 use Rattle.lara_syntax.proofs.Levels.{inside_rest}
 use Rattle.lara_syntax.proofs.Turns.{TakesOne, read_of, err_ok, none_some, rest_is, list-some, list-none, list-fail}
 use Rattle.lara_syntax.proofs.Readers.{IsReader, reads_bind, reads_give, reads_refuse, reads_peek, reads_skip, reads_items, reads_list, skip_shortens, bind_ok}
@@ -60,13 +63,17 @@ pub val_type-reads : IsReader val_type
 unfolding val_type
 val_type-reads = reads_bind peek val_type_by reads_peek val_type_by-reads
 
-lit_by-reads : (w : Option Lexeme) → IsReader (lit_by w)
-lit_by-reads (Some (lex.Number n)) = reads_bind _ _ reads_skip (λ at. reads_give _)
-lit_by-reads w = reads_refuse Unexpected
+lit_of-reads : (v : Option AstValue) → IsReader (lit_of v)
+lit_of-reads (Some v) = reads_bind _ _ reads_skip (λ at. reads_give _)
+lit_of-reads None = reads_refuse Unexpected
 
 pub lit-reads : IsReader lit
 unfolding lit
-lit-reads = reads_bind peek lit_by reads_peek lit_by-reads
+lit-reads = reads_bind peek lit_by reads_peek (λ w. lit_of-reads (next_literal w))
+
+at_literal-reads : {A : Type 0} (p q : Reader A) → IsReader p → IsReader q → (v : Option AstValue) → IsReader (at_literal p q v)
+at_literal-reads p q ip iq (Some v) = ip
+at_literal-reads p q ip iq None = iq
 
 -- ---- lists
 
@@ -159,8 +166,7 @@ unfolding lits
 lits-reads = reads_bind lit (λ x. items_from comma_lit (x ∷ [])) lit-reads (λ x. reads_items comma_lit comma_lit-one comma_lit-reads (x ∷ []))
 
 some_lits_by-reads : (w : Option Lexeme) → IsReader (some_lits_by w)
-some_lits_by-reads (Some (lex.Number n)) = lits-reads
-some_lits_by-reads w = reads_give []
+some_lits_by-reads w = at_literal-reads lits (give []) lits-reads (reads_give []) (next_literal w)
 
 pub some_lits-reads : IsReader some_lits
 unfolding some_lits
@@ -170,10 +176,12 @@ pub entry-reads : IsReader entry
 unfolding entry
 entry-reads = reads_bind _ _ some_lits-reads (λ ks. reads_bind _ _ (sign-reads Colon) (λ at. reads_bind _ _ lits-reads (λ row. reads_give _)))
 
+pub an_entry-reads : IsReader an_entry
+an_entry-reads = reads_bind _ _ entry-reads (λ x. reads_give _)
+
 entry_here_by-reads : (w : Option Lexeme) → IsReader (entry_here_by w)
-entry_here_by-reads (Some (lex.Number n)) = reads_bind _ _ entry-reads (λ x. reads_give _)
-entry_here_by-reads (Some (lex.Sign Colon)) = reads_bind _ _ entry-reads (λ x. reads_give _)
-entry_here_by-reads w = reads_give None
+entry_here_by-reads (Some (lex.Sign Colon)) = an_entry-reads
+entry_here_by-reads w = at_literal-reads an_entry (give None) an_entry-reads (reads_give None) (next_literal w)
 
 pub entry_here-reads : IsReader entry_here
 unfolding entry_here
@@ -218,21 +226,21 @@ unfolding leaf
 leaf-reads = reads_bind peek leaf_by reads_peek leaf_by-reads
 
 -- a leaf with the count before it
-abbrev pub counted : ℕ → AstNode → Reader Counted
+abbrev pub counted : Count → AstNode → Reader Counted
 counted taken x = give (x, taken)
 
-pub counted-reads : (taken : ℕ) → IsReader (leaf >>= counted taken)
+pub counted-reads : (taken : Count) → IsReader (leaf >>= counted taken)
 counted-reads taken = reads_bind leaf (counted taken) leaf-reads (λ x. reads_give {A = Counted} (x, taken))
 
 -- what is a reader whatever the count
-abbrev pub AreReaders : (ℕ → Reader Counted) → Type 0
-AreReaders p = (taken : ℕ) → IsReader (p taken)
+abbrev pub AreReaders : (Count → Reader Counted) → Type 0
+AreReaders p = (taken : Count) → IsReader (p taken)
 
-operand_by-reads : (i : ℕ → Reader Counted) → AreReaders i → (taken : ℕ) (w : Option Lexeme) → IsReader (operand_by i taken w)
+operand_by-reads : (i : Count → Reader Counted) → AreReaders i → (taken : Count) (w : Option Lexeme) → IsReader (operand_by i taken w)
 operand_by-reads i ii taken (Some (lex.Sign Open)) = ii taken
 operand_by-reads i ii taken w = counted-reads taken
 
-operand_with-reads : (i : ℕ → Reader Counted) → AreReaders i → AreReaders (operand_with i)
+operand_with-reads : (i : Count → Reader Counted) → AreReaders i → AreReaders (operand_with i)
 operand_with-reads i ii taken = reads_bind peek (operand_by i taken) reads_peek (operand_by-reads i ii taken)
 
 by_word_by-reads : (w : Option Lexeme) → IsReader (by_word_by w)
@@ -243,43 +251,43 @@ pub by_word-reads : IsReader by_word
 unfolding by_word
 by_word-reads = reads_bind peek by_word_by reads_peek by_word_by-reads
 
-pub operator_word-reads : (limit taken : ℕ) → IsReader (operator_word limit taken)
+pub operator_word-reads : (limit taken : Count) → IsReader (operator_word limit taken)
 unfolding operator_word
-operator_word-reads limit taken = reads_cond (nat_lt taken limit) skip (refuse TooMany) reads_skip (reads_refuse TooMany)
+operator_word-reads limit taken = reads_cond (nat_lt taken.operators limit.operators) skip (refuse TooMany) reads_skip (reads_refuse TooMany)
 
-pub two_by-reads : (what : AstNode → AstNode → AstOp) (o : ℕ → Reader Counted) → AreReaders o → (taken at : ℕ) → IsReader (two_by what o taken at)
-two_by-reads what o io taken at = reads_bind (o (taken + 1)) _ (io (taken + 1)) (λ a. reads_bind (o a.1) _ (io a.1) (λ b. reads_give _))
+pub two_by-reads : (what : AstNode → AstNode → AstOp) (o : Count → Reader Counted) → AreReaders o → (taken : Count) (at : ℕ) → IsReader (two_by what o taken at)
+two_by-reads what o io taken at = reads_bind (o (one_operator taken)) _ (io (one_operator taken)) (λ a. reads_bind (o a.1) _ (io a.1) (λ b. reads_give _))
 
-pub agg_by-reads : (o : ℕ → Reader Counted) → AreReaders o → (taken at : ℕ) → IsReader (agg_by o taken at)
-agg_by-reads o io taken at = reads_bind (o (taken + 1)) _ (io (taken + 1)) (λ a. reads_bind by_word _ by_word-reads (λ by. reads_bind some_names _ some_names-reads (λ ns. reads_give _)))
+pub agg_by-reads : (o : Count → Reader Counted) → AreReaders o → (taken : Count) (at : ℕ) → IsReader (agg_by o taken at)
+agg_by-reads o io taken at = reads_bind (o (one_operator taken)) _ (io (one_operator taken)) (λ a. reads_bind by_word _ by_word-reads (λ by. reads_bind some_names _ some_names-reads (λ ns. reads_give _)))
 
-table_by-reads : (limit : ℕ) (o : ℕ → Reader Counted) → AreReaders o → (taken : ℕ) (w : Option Lexeme) → IsReader (table_by limit o taken w)
+table_by-reads : (limit : Count) (o : Count → Reader Counted) → AreReaders o → (taken : Count) (w : Option Lexeme) → IsReader (table_by limit o taken w)
 table_by-reads limit o io taken (Some (lex.Key key.Join)) = reads_bind (operator_word limit taken) (two_by op.Join o taken) (operator_word-reads limit taken) (two_by-reads op.Join o io taken)
 table_by-reads limit o io taken (Some (lex.Key key.Union)) = reads_bind (operator_word limit taken) (two_by op.Union o taken) (operator_word-reads limit taken) (two_by-reads op.Union o io taken)
 table_by-reads limit o io taken (Some (lex.Key key.Agg)) = reads_bind (operator_word limit taken) (agg_by o taken) (operator_word-reads limit taken) (agg_by-reads o io taken)
 table_by-reads limit o io taken w = io taken
 
-table_with-reads : (limit : ℕ) (o : ℕ → Reader Counted) → AreReaders o → AreReaders (table_with limit o)
+table_with-reads : (limit : Count) (o : Count → Reader Counted) → AreReaders o → AreReaders (table_with limit o)
 table_with-reads limit o io taken = reads_bind peek (table_by limit o taken) reads_peek (table_by-reads limit o io taken)
 
 -- a table in brackets behind its (
 bracketed-reads : (p : Reader Counted) → IsReader p → IsReader (p >>= λ x. sign Close >>= λ end. give x)
 bracketed-reads p ip = reads_bind p _ ip (λ x. reads_bind (sign Close) _ (sign-reads Close) (λ end. reads_give x))
 
-pub inside-reads : (limit levels : ℕ) → AreReaders (inside limit levels)
+pub inside-reads : (limit : Count) (levels : ℕ) → AreReaders (inside limit levels)
 unfolding inside
 inside-reads limit zero taken = reads_refuse TooMany
 inside-reads limit (suc levels) taken = reads_bind _ _ reads_skip (λ at. bracketed-reads (table_with limit (operand_with (inside limit levels)) taken) (table_with-reads limit (operand_with (inside limit levels)) (operand_with-reads (inside limit levels) (inside-reads limit levels)) taken))
 
-pub operand-reads : (limit levels : ℕ) → AreReaders (operand limit levels)
+pub operand-reads : (limit : Count) (levels : ℕ) → AreReaders (operand limit levels)
 unfolding operand
 operand-reads limit levels = operand_with-reads (inside limit levels) (inside-reads limit levels)
 
-pub table-reads : (limit levels : ℕ) → AreReaders (table limit levels)
+pub table-reads : (limit : Count) (levels : ℕ) → AreReaders (table limit levels)
 unfolding table
 table-reads limit levels = table_with-reads limit (operand limit levels) (operand-reads limit levels)
 
-pub inside_rest-reads : (limit levels taken at : ℕ) → IsReader (inside_rest limit levels taken at)
+pub inside_rest-reads : (limit : Count) (levels : ℕ) (taken : Count) (at : ℕ) → IsReader (inside_rest limit levels taken at)
 inside_rest-reads limit levels taken at = bracketed-reads (table limit levels taken) (table-reads limit levels taken)
 
 -- ---- statements
@@ -300,10 +308,10 @@ pub assign_end-reads : (x : AstName) (t : Counted) → IsReader (assign_end x t)
 assign_end-reads x t = reads_bind (sign Semi) (λ end. give (st.Assign x.at x t.0)) (sign-reads Semi) (λ end. reads_give _)
 
 abbrev pub assign_rest : Limits → AstName → Reader AstStatement
-assign_rest limits x = sign Is >>= λ is. table limits.operators limits.levels 0 >>= assign_end x
+assign_rest limits x = sign Is >>= λ is. table limits.counted limits.levels none_counted >>= assign_end x
 
 pub assign_rest-reads : (limits : Limits) (x : AstName) → IsReader (assign_rest limits x)
-assign_rest-reads limits x = reads_bind _ _ (sign-reads Is) (λ is. reads_bind (table limits.operators limits.levels 0) (assign_end x) (table-reads limits.operators limits.levels 0) (assign_end-reads x))
+assign_rest-reads limits x = reads_bind _ _ (sign-reads Is) (λ is. reads_bind (table limits.counted limits.levels none_counted) (assign_end x) (table-reads limits.counted limits.levels none_counted) (assign_end-reads x))
 
 -- a print behind its first word
 abbrev pub print_rest : ℕ → Reader AstStatement
@@ -380,9 +388,16 @@ pub statements-reads : (limits : Limits) (xs : List AstStatement) → IsReader (
 unfolding statements
 statements-reads limits xs = reads_list (next_behind limits) (next_behind-one limits) (next_behind-reads limits) xs
 
+-- the tree of the statements
+abbrev pub tree_given : List AstStatement → Reader Ast
+tree_given xs = give (tree_of xs)
+
+pub tree_given-reads : (xs : List AstStatement) → IsReader (tree_given xs)
+tree_given-reads xs = reads_give (tree_of xs)
+
 pub script-reads : (limits : Limits) → IsReader (script limits)
 unfolding script
-script-reads limits = statements-reads limits []
+script-reads limits = reads_bind (statements limits []) tree_given (statements-reads limits []) tree_given-reads
 
 -- ---- the loop of statements
 

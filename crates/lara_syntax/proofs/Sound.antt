@@ -12,16 +12,19 @@ use Rattle.lara_syntax.specs.declared.ast.AstBy.{AstBy}
 use Rattle.lara_syntax.specs.declared.ast.AstKeyCol.{AstKeyCol}
 use Rattle.lara_syntax.specs.declared.ast.AstValCol.{AstValCol}
 use Rattle.lara_syntax.specs.declared.ast.AstLit.{AstLit}
+use Rattle.lara_syntax.specs.declared.ast.AstValue.{AstValue}
 use Rattle.lara_syntax.specs.declared.ast.AstEntry.{AstEntry}
 use Rattle.lara_syntax.specs.declared.ast.AstNode.{AstNode}
 use Rattle.lara_syntax.specs.declared.ast.AstOp.{AstOp}
 use Rattle.lara_syntax.specs.declared.ast.AstOp.TheVariants as op
 use Rattle.lara_syntax.specs.declared.ast.AstStatement.{AstStatement}
 use Rattle.lara_syntax.specs.declared.ast.AstStatement.TheVariants as st
-use Rattle.lara_syntax.specs.Limits.{Limits}
+use Rattle.lara_syntax.specs.Limits.{Limits, none_counted, one_operator, together}
+use Rattle.lara_syntax.specs.declared.count.Count.{Count}
 use Rattle.lara_syntax.specs.Steps.{Items, Reader, ◌>>=◌, give, refuse, skip, head_word}
 use Rattle.lara_syntax.specs.Reading as r
-use Rattle.lara_syntax.specs.Reading.{sign, first_at, node, Counted}
+use Rattle.lara_syntax.specs.Places.{first_at, node}
+use Rattle.lara_syntax.specs.Reading.{sign, Counted}
 use Rattle.lara_syntax.specs.Grammar.{Word, Mark, Named, Lit, Many, Commas, commas, Maybe, nothing, just, KeyCol, key_col, ValCol, val_col, TypeOf, columns, Entry, entry, SemiEntry, semi_entry, SomeSemi, no_semi, semi, Entries, entries, Leaf, named, load, literal, Operand, leaf, inside, Table, join, union, agg, operand, SomeOrder, no_order, order, Statement, assign, print}
 use Rattle.lara_syntax.proofs.Levels.{inside_rest}
 use Rattle.lara_syntax.proofs.Turns.{read_of, rest_is, err_ok, none_some}
@@ -95,13 +98,13 @@ lits_sound : Sound (Commas Lit) r.lits
 unfolding r.lits r.comma_lit
 lits_sound ts xs u e = commas_sound Lit r.lit lit_sound comma_lit-one ts xs u e
 
-some_lits_when : (o : Option Lexeme) (ts : Items) (xs : List AstLit) (u : Items) → r.some_lits_by o ts ≡ read_of xs u → Maybe (Commas Lit) xs ts u
-some_lits_when (Some (lex.Number n)) ts xs u e = just xs ts u (lits_sound ts xs u e)
-some_lits_when w ts xs u e = absent (Commas Lit) ts xs u e
+some_lits_when : (o : Option AstValue) (ts : Items) (xs : List AstLit) (u : Items) → r.at_literal r.lits (give []) o ts ≡ read_of xs u → Maybe (Commas Lit) xs ts u
+some_lits_when (Some v) ts xs u e = just xs ts u (lits_sound ts xs u e)
+some_lits_when None ts xs u e = absent (Commas Lit) ts xs u e
 
 some_lits_sound : Sound (Maybe (Commas Lit)) r.some_lits
 unfolding r.some_lits
-some_lits_sound ts xs u e = some_lits_when (head_word ts) ts xs u e
+some_lits_sound ts xs u e = some_lits_when (r.next_literal (head_word ts)) ts xs u e
 
 entry_sound : Sound Entry r.entry
 unfolding r.entry
@@ -111,19 +114,25 @@ entry_sound ts x u e =
     let c = bind_ok (r.lits b.1) (λ row. give (record { at = first_at a.0 b.0; key = a.0; row = row })) (x, u) b.3 in
     give_to (λ y q. Entry y ts q) (record { at = first_at a.0 b.0; key = a.0; row = c.0 }) c.1 x u c.3 (entry b.0 a.0 c.0 ts a.1 b.1 c.1 (some_lits_sound ts a.0 a.1 a.2) (sign_sound Colon a.1 b.0 b.1 b.2) (lits_sound b.1 c.0 c.1 c.2))
 
+entry_at_some : (o : Option AstValue) (ts : Items) (x : AstEntry) (u : Items) → r.at_literal r.an_entry (give None) o ts ≡ read_of (Some x) u → Entry x ts u
+entry_at_some (Some v) ts x u e = entry_sound ts x u (read_some (r.entry ts) x u e)
+entry_at_some None ts x u e = absurd (none_some ts u x e)
+
 entry_here_some : (o : Option Lexeme) (ts : Items) (x : AstEntry) (u : Items) → r.entry_here_by o ts ≡ read_of (Some x) u → Entry x ts u
-entry_here_some (Some (lex.Number n)) ts x u e = entry_sound ts x u (read_some (r.entry ts) x u e)
 entry_here_some (Some (lex.Sign Colon)) ts x u e = entry_sound ts x u (read_some (r.entry ts) x u e)
-entry_here_some w ts x u e = absurd (none_some ts u x e)
+entry_here_some w ts x u e = entry_at_some (r.next_literal w) ts x u e
 
 entry_here_sound : (ts : Items) (x : AstEntry) (u : Items) → r.entry_here ts ≡ read_of (Some x) u → Entry x ts u
 unfolding r.entry_here
 entry_here_sound ts x u e = entry_here_some (head_word ts) ts x u e
 
+entry_at_none : (o : Option AstValue) (ts : Items) (u : Items) → r.at_literal r.an_entry (give None) o ts ≡ read_of None u → ts ≡ u
+entry_at_none (Some v) ts u e = absurd (some_none (r.entry ts) u e)
+entry_at_none None ts u e = rest_is {A = Option AstEntry} None ts None u e
+
 entry_none_by : (o : Option Lexeme) (ts : Items) (u : Items) → r.entry_here_by o ts ≡ read_of None u → ts ≡ u
-entry_none_by (Some (lex.Number n)) ts u e = absurd (some_none (r.entry ts) u e)
 entry_none_by (Some (lex.Sign Colon)) ts u e = absurd (some_none (r.entry ts) u e)
-entry_none_by w ts u e = rest_is {A = Option AstEntry} None ts None u e
+entry_none_by w ts u e = entry_at_none (r.next_literal w) ts u e
 
 entry_here_none : (ts : Items) (u : Items) → r.entry_here ts ≡ read_of None u → ts ≡ u
 unfolding r.entry_here
@@ -184,25 +193,25 @@ unfolding r.leaf
 leaf_sound ts x u e = leaf_when (head_word ts) ts x u refl e
 
 -- a table with its operator words, which are in the count
-pub record Counts (X : ℕ → AstNode → Items → Items → Type 0) (limit taken : ℕ) (x : Counted) (ts u : Items) : Type 0 where
-  pub n : ℕ
-  pub total : x.1 ≡ taken + n
-  pub within : x.1 ≤ limit
+pub record Counts (X : Count → AstNode → Items → Items → Type 0) (limit taken : Count) (x : Counted) (ts u : Items) : Type 0 where
+  pub n : Count
+  pub total : x.1.operators ≡ taken.operators + n.operators
+  pub within : x.1.operators ≤ limit.operators
   pub stands : X n x.0 ts u
 
-abbrev pub CountSound : (ℕ → AstNode → Items → Items → Type 0) → ℕ → (ℕ → Reader Counted) → Type 0
-CountSound X limit p = (taken : ℕ) → taken ≤ limit → (ts : Items) (x : Counted) (u : Items) → p taken ts ≡ read_of x u → Counts X limit taken x ts u
+abbrev pub CountSound : (Count → AstNode → Items → Items → Type 0) → Count → (Count → Reader Counted) → Type 0
+CountSound X limit p = (taken : Count) → taken.operators ≤ limit.operators → (ts : Items) (x : Counted) (u : Items) → p taken ts ≡ read_of x u → Counts X limit taken x ts u
 
-abbrev InsideSound : ℕ → ℕ → Type 0
-InsideSound limit d = (taken : ℕ) → taken ≤ limit → (ts : Items) (x : Counted) (u : Items) → head_word ts ≡ Some (lex.Sign Open) → r.inside limit d taken ts ≡ read_of x u → Counts (Operand d) limit taken x ts u
+abbrev InsideSound : Count → ℕ → Type 0
+InsideSound limit d = (taken : Count) → taken.operators ≤ limit.operators → (ts : Items) (x : Counted) (u : Items) → head_word ts ≡ Some (lex.Sign Open) → r.inside limit d taken ts ≡ read_of x u → Counts (Operand d) limit taken x ts u
 
-operand_when : (limit d : ℕ) → InsideSound limit d → (taken : ℕ) → taken ≤ limit → (o : Option Lexeme) (ts : Items) (x : Counted) (u : Items) → head_word ts ≡ o → r.operand_by (r.inside limit d) taken o ts ≡ read_of x u → Counts (Operand d) limit taken x ts u
+operand_when : (limit : Count) (d : ℕ) → InsideSound limit d → (taken : Count) → taken.operators ≤ limit.operators → (o : Option Lexeme) (ts : Items) (x : Counted) (u : Items) → head_word ts ≡ o → r.operand_by (r.inside limit d) taken o ts ≡ read_of x u → Counts (Operand d) limit taken x ts u
 operand_when limit d is taken le (Some (lex.Sign Open)) ts x u h e = is taken le ts x u h e
 operand_when limit d is taken le w ts x u h e =
     let a = bind_ok (r.leaf ts) (λ y. give (y, taken)) (x, u) e in
-    give_to (λ z q. Counts (Operand d) limit taken z ts q) (a.0, taken) a.1 x u a.3 (record { n = 0; total = omega arith; within = le; stands = leaf d a.0 ts a.1 (leaf_sound ts a.0 a.1 a.2) })
+    give_to (λ z q. Counts (Operand d) limit taken z ts q) (a.0, taken) a.1 x u a.3 (record { n = none_counted; total = omega arith; within = le; stands = leaf d a.0 ts a.1 (leaf_sound ts a.0 a.1 a.2) })
 
-operand_from : (limit d : ℕ) → InsideSound limit d → CountSound (Operand d) limit (r.operand limit d)
+operand_from : (limit : Count) (d : ℕ) → InsideSound limit d → CountSound (Operand d) limit (r.operand limit d)
 unfolding r.operand
 operand_from limit d is taken le ts x u e = operand_when limit d is taken le (head_word ts) ts x u refl e
 
@@ -218,59 +227,59 @@ operator_when : (b : Bool) (ts : Items) (at : ℕ) (u : Items) → cond b skip (
 operator_when true ts at u e = (refl, e)
 operator_when false ts at u e = absurd (err_ok {A = ℕ} _ (at, u) e)
 
-operator_sound : (limit taken : ℕ) (w : Lexeme) (ts : Items) (at : ℕ) (u : Items) → head_word ts ≡ Some w → r.operator_word limit taken ts ≡ read_of at u → (taken < limit) × Word w at ts u
+operator_sound : (limit taken : Count) (w : Lexeme) (ts : Items) (at : ℕ) (u : Items) → head_word ts ≡ Some w → r.operator_word limit taken ts ≡ read_of at u → (taken.operators < limit.operators) × Word w at ts u
 unfolding r.operator_word
-operator_sound limit taken w ts at u h e = let a = operator_when (nat_lt taken limit) ts at u e in (ltb-true taken limit a.0, word_taken w ts at u h a.1)
+operator_sound limit taken w ts at u h e = let a = operator_when (nat_lt taken.operators limit.operators) ts at u e in (ltb-true taken.operators limit.operators a.0, word_taken w ts at u h a.1)
 
 -- how two operands make a table
 abbrev MakesTwo : ℕ → (AstNode → AstNode → AstOp) → Keyword → Type 0
-MakesTwo d what k = (m n at : ℕ) (x y : AstNode) (t1 t2 t3 rest : Items) → Word (lex.Key k) at t1 t2 → Operand d m x t2 t3 → Operand d n y t3 rest → Table d (suc (m + n)) (node at (what x y)) t1 rest
+MakesTwo d what k = (m n : Count) (at : ℕ) (x y : AstNode) (t1 t2 t3 rest : Items) → Word (lex.Key k) at t1 t2 → Operand d m x t2 t3 → Operand d n y t3 rest → Table d (one_operator (together m n)) (node at (what x y)) t1 rest
 
-two_sound : (limit d : ℕ) (what : AstNode → AstNode → AstOp) (k : Keyword) → MakesTwo d what k → CountSound (Operand d) limit (r.operand limit d) → (taken : ℕ) (ts : Items) (x : Counted) (u : Items) → head_word ts ≡ Some (lex.Key k)
+two_sound : (limit : Count) (d : ℕ) (what : AstNode → AstNode → AstOp) (k : Keyword) → MakesTwo d what k → CountSound (Operand d) limit (r.operand limit d) → (taken : Count) (ts : Items) (x : Counted) (u : Items) → head_word ts ≡ Some (lex.Key k)
     → (r.operator_word limit taken >>= r.two_by what (r.operand limit d) taken) ts ≡ read_of x u → Counts (Table d) limit taken x ts u
 two_sound limit d what k make os taken ts x u h e =
     let o = r.operand limit d in
     let w = bind_ok (r.operator_word limit taken ts) (r.two_by what o taken) (x, u) e in
     let at = w.0 in
     let word = operator_sound limit taken (lex.Key k) ts at w.1 h w.2 in
-    let f = bind_ok (o (taken + 1) w.1) (λ y. o y.1 >>= λ z. give (node at (what y.0 z.0), z.1)) (x, u) w.3 in
+    let f = bind_ok (o (one_operator taken) w.1) (λ y. o y.1 >>= λ z. give (node at (what y.0 z.0), z.1)) (x, u) w.3 in
     let a = f.0 in
-    let first = os (taken + 1) (omega (arith, word.0)) w.1 a f.1 f.2 in
+    let first = os (one_operator taken) (omega (arith, word.0)) w.1 a f.1 f.2 in
     let g = bind_ok (o a.1 f.1) (λ z. give (node at (what a.0 z.0), z.1)) (x, u) f.3 in
     let b = g.0 in
     let second = os a.1 first.within f.1 b g.1 g.2 in
     give_to (λ y q. Counts (Table d) limit taken y ts q) (node at (what a.0 b.0), b.1) g.1 x u g.3
-    (record { n = suc (first.n + second.n); total = omega (arith, first.total, second.total); within = second.within; stands = make first.n second.n at a.0 b.0 ts w.1 f.1 g.1 word.1 first.stands second.stands })
+    (record { n = one_operator (together first.n second.n); total = omega (arith, first.total, second.total); within = second.within; stands = make first.n second.n at a.0 b.0 ts w.1 f.1 g.1 word.1 first.stands second.stands })
 
-agg_sound : (limit d : ℕ) → CountSound (Operand d) limit (r.operand limit d) → (taken : ℕ) (ts : Items) (x : Counted) (u : Items) → head_word ts ≡ Some (lex.Key key.Agg)
+agg_sound : (limit : Count) (d : ℕ) → CountSound (Operand d) limit (r.operand limit d) → (taken : Count) (ts : Items) (x : Counted) (u : Items) → head_word ts ≡ Some (lex.Key key.Agg)
     → (r.operator_word limit taken >>= r.agg_by (r.operand limit d) taken) ts ≡ read_of x u → Counts (Table d) limit taken x ts u
 agg_sound limit d os taken ts x u h e =
     let o = r.operand limit d in
     let w = bind_ok (r.operator_word limit taken ts) (r.agg_by o taken) (x, u) e in
     let at = w.0 in
     let word = operator_sound limit taken (lex.Key key.Agg) ts at w.1 h w.2 in
-    let f = bind_ok (o (taken + 1) w.1) (λ y. r.by_word >>= λ by. r.some_names >>= λ ns. give (node at (op.Agg y.0 ns), y.1)) (x, u) w.3 in
+    let f = bind_ok (o (one_operator taken) w.1) (λ y. r.by_word >>= λ by. r.some_names >>= λ ns. give (node at (op.Agg y.0 ns), y.1)) (x, u) w.3 in
     let a = f.0 in
-    let first = os (taken + 1) (omega (arith, word.0)) w.1 a f.1 f.2 in
+    let first = os (one_operator taken) (omega (arith, word.0)) w.1 a f.1 f.2 in
     let g = bind_ok (r.by_word f.1) (λ by. r.some_names >>= λ ns. give (node at (op.Agg a.0 ns), a.1)) (x, u) f.3 in
     let l = bind_ok (r.some_names g.1) (λ ns. give (node at (op.Agg a.0 ns), a.1)) (x, u) g.3 in
     give_to (λ y q. Counts (Table d) limit taken y ts q) (node at (op.Agg a.0 l.0), a.1) l.1 x u l.3
-    (record { n = suc first.n; total = omega (arith, first.total); within = first.within; stands = agg d first.n at g.0 a.0 l.0 ts w.1 f.1 g.1 l.1 word.1 first.stands (by_word_sound f.1 g.0 g.1 g.2) (some_names_sound g.1 l.0 l.1 l.2) })
+    (record { n = one_operator first.n; total = omega (arith, first.total); within = first.within; stands = agg d first.n at g.0 a.0 l.0 ts w.1 f.1 g.1 l.1 word.1 first.stands (by_word_sound f.1 g.0 g.1 g.2) (some_names_sound g.1 l.0 l.1 l.2) })
 
-lone_sound : (limit d : ℕ) → CountSound (Operand d) limit (r.operand limit d) → CountSound (Table d) limit (r.operand limit d)
+lone_sound : (limit : Count) (d : ℕ) → CountSound (Operand d) limit (r.operand limit d) → CountSound (Table d) limit (r.operand limit d)
 lone_sound limit d os taken le ts x u e = let a = os taken le ts x u e in record { n = a.n; total = a.total; within = a.within; stands = operand d a.n x.0 ts u a.stands }
 
-table_when : (limit d : ℕ) → CountSound (Operand d) limit (r.operand limit d) → (taken : ℕ) → taken ≤ limit → (o : Option Lexeme) (ts : Items) (x : Counted) (u : Items) → head_word ts ≡ o → r.table_by limit (r.operand limit d) taken o ts ≡ read_of x u → Counts (Table d) limit taken x ts u
+table_when : (limit : Count) (d : ℕ) → CountSound (Operand d) limit (r.operand limit d) → (taken : Count) → taken.operators ≤ limit.operators → (o : Option Lexeme) (ts : Items) (x : Counted) (u : Items) → head_word ts ≡ o → r.table_by limit (r.operand limit d) taken o ts ≡ read_of x u → Counts (Table d) limit taken x ts u
 table_when limit d os taken le (Some (lex.Key key.Join)) ts x u h e = two_sound limit d op.Join key.Join (join d) os taken ts x u h e
 table_when limit d os taken le (Some (lex.Key key.Union)) ts x u h e = two_sound limit d op.Union key.Union (union d) os taken ts x u h e
 table_when limit d os taken le (Some (lex.Key key.Agg)) ts x u h e = agg_sound limit d os taken ts x u h e
 table_when limit d os taken le w ts x u h e = lone_sound limit d os taken le ts x u e
 
-table_from : (limit d : ℕ) → InsideSound limit d → CountSound (Table d) limit (r.table limit d)
+table_from : (limit : Count) (d : ℕ) → InsideSound limit d → CountSound (Table d) limit (r.table limit d)
 unfolding r.table
 table_from limit d is taken le ts x u e = table_when limit d (operand_from limit d is) taken le (head_word ts) ts x u refl e
 
-inside_sound : (limit d : ℕ) → InsideSound limit d
+inside_sound : (limit : Count) (d : ℕ) → InsideSound limit d
 unfolding r.inside r.table r.operand
 inside_sound limit zero taken le ts x u h e = absurd (err_ok {A = Counted} _ (x, u) e)
 inside_sound limit (suc d) taken le ts x u h e =
@@ -282,7 +291,7 @@ inside_sound limit (suc d) taken le ts x u h e =
     give_to (λ z q. Counts (Operand (suc d)) limit taken z ts q) y c.1 x u c.3
     (record { n = inner.n; total = inner.total; within = inner.within; stands = inside d inner.n a.0 c.0 y.0 ts a.1 b.1 c.1 (word_taken (lex.Sign Open) ts a.0 a.1 h a.2) inner.stands (sign_sound Close b.1 c.0 c.1 c.2) })
 
-table_sound : (limit d : ℕ) → CountSound (Table d) limit (r.table limit d)
+table_sound : (limit : Count) (d : ℕ) → CountSound (Table d) limit (r.table limit d)
 table_sound limit d = table_from limit d (inside_sound limit d)
 
 -- ---- statements
@@ -301,11 +310,11 @@ some_order_sound ts x u e = some_order_when (head_word ts) ts x u refl e
 statement_when : (limits : Limits) (o : Option Lexeme) (ts : Items) (x : AstStatement) (u : Items) → head_word ts ≡ o → r.statement_by limits o ts ≡ read_of x u → Statement limits x ts u
 statement_when limits (Some (lex.Name n)) ts x u h e =
     let a = bind_ok (r.name ts) (assign_rest limits) (x, u) e in
-    let b = bind_ok (sign Is a.1) (λ is. r.table limits.operators limits.levels 0 >>= λ t. sign Semi >>= λ end. give (st.Assign a.0.at a.0 t.0)) (x, u) a.3 in
-    let c = bind_ok (r.table limits.operators limits.levels 0 b.1) (λ t. sign Semi >>= λ end. give (st.Assign a.0.at a.0 t.0)) (x, u) b.3 in
+    let b = bind_ok (sign Is a.1) (λ is. r.table limits.counted limits.levels none_counted >>= λ t. sign Semi >>= λ end. give (st.Assign a.0.at a.0 t.0)) (x, u) a.3 in
+    let c = bind_ok (r.table limits.counted limits.levels none_counted b.1) (λ t. sign Semi >>= λ end. give (st.Assign a.0.at a.0 t.0)) (x, u) b.3 in
     let t = c.0 in
     let d = bind_ok (sign Semi c.1) (λ end. give (st.Assign a.0.at a.0 t.0)) (x, u) c.3 in
-    let s = table_sound limits.operators limits.levels 0 (omega arith) b.1 t c.1 c.2 in
+    let s = table_sound limits.counted limits.levels none_counted (omega arith) b.1 t c.1 c.2 in
     give_to (λ y q. Statement limits y ts q) (st.Assign a.0.at a.0 t.0) d.1 x u d.3
     (assign b.0 d.0 s.n a.0 t.0 ts a.1 b.1 c.1 d.1 (name_sound ts a.0 a.1 a.2) (sign_sound Is a.1 b.0 b.1 b.2) s.stands (omega (arith, s.total, s.within)) (sign_sound Semi c.1 d.0 d.1 d.2))
 statement_when limits (Some (lex.Key key.Print)) ts x u h e =

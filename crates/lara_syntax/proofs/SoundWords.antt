@@ -13,11 +13,12 @@ use Rattle.lara_syntax.specs.declared.item.Sign.TheVariants.{Comma}
 use Rattle.lara_data.specs.declared.refusal.Kind.TheVariants.{Unexpected}
 use Rattle.lara_syntax.specs.declared.ast.AstName.{AstName}
 use Rattle.lara_syntax.specs.declared.ast.AstLit.{AstLit}
+use Rattle.lara_syntax.specs.declared.ast.AstValue.{AstValue}
 use Rattle.lara_syntax.specs.declared.ast.AstValue.TheVariants as val
 use Rattle.lara_syntax.specs.Steps.{Items, Read, Reader, onward, ◌>>=◌, give, refuse, skip, turns, turns_within, turn, behind, list_from, items_from, head_word}
 use Rattle.lara_syntax.specs.Reading as r
 use Rattle.lara_syntax.specs.Reading.{sign, sign_by, comma_by}
-use Rattle.lara_syntax.specs.Grammar.{Word, word, Mark, Named, Lit, number, KeyTyped, nat, ValTyped, count, Many, none, more, CommaThen, comma_then, Commas, commas, Maybe, nothing}
+use Rattle.lara_syntax.specs.Grammar.{Word, word, Mark, Named, IsLiteral, number, Lit, lit, KeyTyped, nat, ValTyped, count, Many, none, more, CommaThen, comma_then, Commas, commas, Maybe, nothing}
 use Rattle.lara_syntax.proofs.Turns.{TakesOne, read_of, pair_is, value_is, rest_is, err_ok, none_some, list_step}
 use Rattle.lara_syntax.proofs.Readers.{bind_ok}
 use Rattle.lara_syntax.specs.FixedWords.{same_sign}
@@ -79,11 +80,19 @@ pub name_sound : Sound Named r.name
 unfolding r.name
 name_sound ts x u e = name_when (head_word ts) ts x u refl e
 
+is_literal : (w : Lexeme) (v : AstValue) → r.literal_of w ≡ Some v → IsLiteral w v
+is_literal (lex.Number n) v e = let q : val.Number n ≡ v = cc in subst (λ (z : AstValue). IsLiteral (lex.Number n) z) q (number n)
+is_literal w v e = absurd cc
+
+lit_taken : (w : Lexeme) (o : Option AstValue) (ts : Items) (x : AstLit) (u : Items) → r.literal_of w ≡ o → head_word ts ≡ Some w → r.lit_of o ts ≡ read_of x u → Lit x ts u
+lit_taken w (Some v) ts x u l h e =
+    let a = bind_ok (skip ts) (λ at. give (record { at = at; value = v })) (x, u) e in
+    give_to (λ y q. Lit y ts q) (record { at = a.0; value = v }) a.1 x u a.3 (lit a.0 w v ts a.1 (is_literal w v l) (word_taken w ts a.0 a.1 h a.2))
+lit_taken w None ts x u l h e = absurd (err_ok {A = AstLit} _ (x, u) e)
+
 pub lit_when : (o : Option Lexeme) (ts : Items) (x : AstLit) (u : Items) → head_word ts ≡ o → r.lit_by o ts ≡ read_of x u → Lit x ts u
-lit_when (Some (lex.Number n)) ts x u h e =
-    let a = bind_ok (skip ts) (λ at. give (record { at = at; value = val.Number n })) (x, u) e in
-    give_to (λ y q. Lit y ts q) (record { at = a.0; value = val.Number n }) a.1 x u a.3 (number a.0 n ts a.1 (word_taken (lex.Number n) ts a.0 a.1 h a.2))
-lit_when w ts x u h e = absurd (err_ok {A = AstLit} _ (x, u) e)
+lit_when None ts x u h e = absurd (err_ok {A = AstLit} _ (x, u) e)
+lit_when (Some w) ts x u h e = lit_taken w (r.literal_of w) ts x u refl h e
 
 pub lit_sound : Sound Lit r.lit
 unfolding r.lit

@@ -3,7 +3,7 @@ use Rattle.std.proofs.Common.{◌≡◌, ◌⊎◌, [], ◌∷◌, ◌++◌, len
 use Rattle.lara_syntax.specs.declared.item.Lexeme.{Lexeme}
 use Rattle.lara_syntax.specs.declared.fault.Stop.{Stop}
 use Rattle.lara_data.specs.declared.refusal.Kind.{Kind}
-use Rattle.lara_syntax.specs.Scripts.{AreSpelled}
+use Rattle.lara_syntax.specs.StartSymbols.{AreSpelled}
 use Rattle.lara_syntax.specs.Steps.{Items, Reader, ◌>>=◌, give, refuse, peek, head_word}
 use Rattle.lara_syntax.proofs.Turns.{read_of, erred, rest_is, value_is, err_ok}
 use Rattle.lara_syntax.proofs.Readers.{IsReader, bind_ok, bind_err, split, longer, regroup, ok_err, nothing_before, stop_is}

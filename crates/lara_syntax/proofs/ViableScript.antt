@@ -9,13 +9,13 @@ use Rattle.lara_syntax.specs.declared.ast.AstName.{AstName}
 use Rattle.lara_syntax.specs.declared.ast.AstBy.{AstBy}
 use Rattle.lara_syntax.specs.declared.ast.AstStatement.{AstStatement}
 use Rattle.lara_syntax.specs.declared.ast.AstStatement.TheVariants as st
-use Rattle.lara_syntax.specs.Limits.{Limits}
+use Rattle.lara_syntax.specs.Limits.{Limits, none_counted}
 use Rattle.lara_syntax.specs.Steps.{Items, Reader, ◌>>=◌, give, head_word}
 use Rattle.lara_syntax.specs.Reading as r
 use Rattle.lara_syntax.specs.Reading.{sign}
 use Rattle.lara_syntax.proofs.Turns.{TakesOne, read_of, rest_is, err_ok, none_some}
 use Rattle.lara_syntax.proofs.Readers.{IsReader, reads_bind, reads_give, skip_shortens}
-use Rattle.lara_syntax.proofs.RuleReaders.{sign-reads, name-reads, some_names-reads, table-reads, some_order-reads, statement-reads, statement-one, assign_end, assign_end-reads, assign_rest, assign_rest-reads, print_rest, print_rest-reads, next_statement-one, has_room, next_behind, next_behind-one, next_behind-reads}
+use Rattle.lara_syntax.proofs.RuleReaders.{sign-reads, name-reads, some_names-reads, table-reads, some_order-reads, statement-reads, statement-one, assign_end, assign_end-reads, assign_rest, assign_rest-reads, print_rest, print_rest-reads, next_statement-one, has_room, next_behind, next_behind-one, next_behind-reads, statements-reads, tree_given, tree_given-reads}
 use Rattle.lara_syntax.proofs.Complete.{AfterNames}
 use Rattle.lara_syntax.proofs.Viable.{IsViable, IsCase, case_viable, case_refuse, viable_bind, viable_give, viable_choice}
 use Rattle.lara_syntax.proofs.ViableLoop.{Keeps, IsItem, viable_list, keeps_viable, keeps_none, keeps_choice, viable_item}
@@ -56,10 +56,10 @@ some_order_viable = viable_item (next_is Semi) r.some_order_by some_order-one no
 
 pub assign_rest_viable : (F : Option Lexeme → Type 0) (limits : Limits) (x : AstName) → IsViable F (assign_rest limits x)
 assign_rest_viable F limits x =
-    let table = r.table limits.operators limits.levels 0 in
-    let reads = table-reads limits.operators limits.levels 0 in
+    let table = r.table limits.counted limits.levels none_counted in
+    let reads = table-reads limits.counted limits.levels none_counted in
     viable_bind F any (sign Is) (λ is. table >>= assign_end x) (sign-reads Is) (λ is. reads_bind table (assign_end x) reads (assign_end-reads x)) (sign_viable any Is)
-    (λ is. viable_bind F AfterNames table (assign_end x) reads (assign_end-reads x) (table_viable limits.operators limits.levels 0)
+    (λ is. viable_bind F AfterNames table (assign_end x) reads (assign_end-reads x) (table_viable limits.counted limits.levels none_counted)
     (λ t. viable_bind F any (sign Semi) (λ end. give (st.Assign x.at x t.0)) (sign-reads Semi) (λ end. reads_give _) (sign_viable any Semi) (λ end. viable_give F _) (λ end ts y v e a. tt))
     (λ t ts y v e a. subst AfterNames (sym (sign_starts F Semi (λ end. give (st.Assign x.at x t.0)) ts y v e a)) tt)) (λ is ts y v e a. tt)
 
@@ -122,6 +122,10 @@ next_item limits = record {
   viable = λ ys. next_viable limits (has_room limits ys);
 }
 
+statements_viable : (limits : Limits) → IsViable at_end (r.statements limits [])
+unfolding r.statements
+statements_viable limits = viable_list at_end any (next_behind limits) (next_item limits) []
+
 pub script_viable : (limits : Limits) → IsViable at_end (r.script limits)
-unfolding r.script r.statements
-script_viable limits = viable_list at_end any (next_behind limits) (next_item limits) []
+unfolding r.script
+script_viable limits = viable_bind at_end at_end (r.statements limits []) tree_given (statements-reads limits []) tree_given-reads (statements_viable limits) (λ xs. viable_give at_end (r.tree_of xs)) (λ xs ts y v e a. subst (λ q. at_end (head_word q)) (sym (rest_is (r.tree_of xs) ts y v e)) a)

@@ -9,19 +9,21 @@ use Rattle.lara_data.specs.declared.refusal.Kind.TheVariants.{Unexpected}
 use Rattle.lara_syntax.specs.declared.ast.AstName.{AstName}
 use Rattle.lara_syntax.specs.declared.ast.AstKeyCol.{AstKeyCol}
 use Rattle.lara_syntax.specs.declared.ast.AstLit.{AstLit}
+use Rattle.lara_syntax.specs.declared.ast.AstValue.{AstValue}
 use Rattle.lara_syntax.specs.declared.ast.AstEntry.{AstEntry}
 use Rattle.lara_syntax.specs.declared.ast.AstNode.{AstNode}
 use Rattle.lara_syntax.specs.declared.ast.AstOp.TheVariants as op
 use Rattle.lara_syntax.specs.Steps.{Items, Reader, ◌>>=◌, give, skip, items_from, head_word}
 use Rattle.lara_syntax.specs.Reading as r
-use Rattle.lara_syntax.specs.Reading.{sign, node}
+use Rattle.lara_syntax.specs.Places.{node}
+use Rattle.lara_syntax.specs.Reading.{sign}
 use Rattle.lara_syntax.proofs.Turns.{TakesOne, read_of, rest_is, none_some}
 use Rattle.lara_syntax.proofs.Readers.{IsReader, reads_bind, reads_give, reads_items, skip_shortens}
 use Rattle.lara_syntax.proofs.RuleReaders.{sign-reads, name-reads, key_type-reads, val_type-reads, lit-reads, comma-reads, comma-one, key_col-reads, some_key_cols-reads, val_col-reads, val_cols-reads, table_type-reads, lits-reads, some_lits-reads, entry-reads, entry_here-reads, semi_entry-reads, semi_entry-one, entries_from-reads, some_entries-reads}
 use Rattle.lara_syntax.proofs.Complete.{NoComma, AfterNames, no_names_by, names_comma}
 use Rattle.lara_syntax.proofs.Viable.{IsViable, IsCase, Starts, case_viable, case_refuse, viable_bind, viable_give, viable_choice}
 use Rattle.lara_syntax.proofs.ViableLoop.{Keeps, IsItem, loop_starts, viable_list, keeps_viable, keeps_none, keeps_choice, viable_item}
-use Rattle.lara_syntax.proofs.ViableWords.{name_spelled, a_name, any, next_is, token, viable_behind, Takes, quiet_takes, refuse_takes, sign_takes, sign_viable, sign_starts, name_takes, name_viable, key_type_viable, val_type_viable, lit_takes, lit_viable, first_takes, second_takes, commas_viable, quiet_list, no_list, empty_list}
+use Rattle.lara_syntax.proofs.ViableWords.{name_spelled, a_name, any, next_is, token, viable_behind, Takes, quiet_takes, refuse_takes, sign_takes, sign_viable, sign_starts, name_takes, name_viable, key_type_viable, val_type_viable, lit_takes, literal_case, literal_keeps, lit_viable, first_takes, second_takes, commas_viable, quiet_list, no_list, empty_list}
 
 -- ---- names
 
@@ -104,19 +106,18 @@ unfolding r.lits r.comma_lit
 lits_takes = first_takes r.lit _ lit_takes (λ x. reads_items (r.comma_then r.lit) (comma-one r.lit lit-reads) (comma-reads r.lit lit-reads) (x ∷ []))
 
 pub some_lits_cases : (w : Option Lexeme) → IsCase (next_is Colon) (r.some_lits_by w)
-some_lits_cases (Some (lex.Number n)) = case_viable (next_is Colon) _ (lits_viable (next_is Colon) (next_no Colon tt))
-some_lits_cases w = case_viable (next_is Colon) (give []) (viable_give (next_is Colon) [])
+some_lits_cases w = literal_case (next_is Colon) r.lits (give []) (case_viable (next_is Colon) _ (lits_viable (next_is Colon) (next_no Colon tt))) (case_viable (next_is Colon) (give []) (viable_give (next_is Colon) [])) (r.next_literal w)
 
-pub some_lits_empty : (w : Option Lexeme) (u : Items) (xs : List AstLit) → r.some_lits_by w u ≡ read_of xs u → xs ≡ []
-some_lits_empty (Some (lex.Number n)) u xs e = no_list r.lits lits_takes u xs e
-some_lits_empty w u xs e = empty_list u xs e
+pub some_lits_empty : (v : Option AstValue) (u : Items) (xs : List AstLit) → r.at_literal r.lits (give []) v u ≡ read_of xs u → xs ≡ []
+some_lits_empty (Some v) u xs e = no_list r.lits lits_takes u xs e
+some_lits_empty None u xs e = empty_list u xs e
 
 pub no_lits : (v : Items) → next_is Colon (head_word v) → r.some_lits_by (head_word v) v ≡ read_of [] v
 no_lits v after = ap (λ (w : Option Lexeme). r.some_lits_by w v) after
 
 pub some_lits_viable : IsViable (next_is Colon) r.some_lits
 unfolding r.some_lits
-some_lits_viable = viable_choice (next_is Colon) r.some_lits_by some_lits_cases (quiet_list (next_is Colon) r.some_lits_by (λ u xs e. some_lits_empty (head_word u) u xs e) no_lits) [] tt [] no_lits
+some_lits_viable = viable_choice (next_is Colon) r.some_lits_by some_lits_cases (quiet_list (next_is Colon) r.some_lits_by (λ u xs e. some_lits_empty (r.next_literal (head_word u)) u xs e) no_lits) [] tt [] no_lits
 
 pub entry_viable : (F : Option Lexeme → Type 0) → ((w : Option Lexeme) → F w → NoComma w) → IsViable F r.entry
 unfolding r.entry
@@ -145,22 +146,24 @@ no_entry_by (Some (lex.Sign Semi)) ts a = refl
 no_entry_by (Some (lex.Sign CloseBrace)) ts a = refl
 no_entry_by w ts a = absurd a
 
-pub an_entry_viable : (F : Option Lexeme → Type 0) → ((w : Option Lexeme) → F w → NoComma w) → IsViable F (r.entry >>= λ x. give (Some x))
+pub an_entry_viable : (F : Option Lexeme → Type 0) → ((w : Option Lexeme) → F w → NoComma w) → IsViable F r.an_entry
 an_entry_viable F not_comma = viable_bind F F r.entry (λ x. give (Some x)) entry-reads (λ x. reads_give _) (entry_viable F not_comma) (λ x. viable_give F _) (λ x ts y v e a. subst (λ q. F (head_word q)) (sym (rest_is _ ts y v e)) a)
 
 pub entry_here_cases : (F : Option Lexeme → Type 0) → ((w : Option Lexeme) → F w → NoComma w) → (w : Option Lexeme) → IsCase F (r.entry_here_by w)
-entry_here_cases F not_comma (Some (lex.Number n)) = case_viable F _ (an_entry_viable F not_comma)
 entry_here_cases F not_comma (Some (lex.Sign Colon)) = case_viable F _ (an_entry_viable F not_comma)
-entry_here_cases F not_comma w = case_viable F (give None) (viable_give F None)
+entry_here_cases F not_comma w = literal_case F r.an_entry (give None) (case_viable F _ (an_entry_viable F not_comma)) (case_viable F (give None) (viable_give F None)) (r.next_literal w)
 
-pub an_entry_takes : Takes (r.entry >>= λ x. give (Some x))
+pub an_entry_takes : Takes r.an_entry
 unfolding r.entry
 an_entry_takes = first_takes r.entry (λ x. give (Some x)) (second_takes r.some_lits _ some_lits-reads (λ ks. first_takes (sign Colon) _ (sign_takes Colon) (λ at. reads_bind _ _ lits-reads (λ row. reads_give _)))) (λ x. reads_give _)
 
+pub entry_at_one : (v : Option AstValue) (ts : Items) (x : AstEntry) (u : Items) → r.at_literal r.an_entry (give None) v ts ≡ read_of (Some x) u → length u < length ts
+entry_at_one (Some v) ts x u e = an_entry_takes ts (Some x) u e
+entry_at_one None ts x u e = absurd (none_some ts u x e)
+
 pub entry_here_by_one : (w : Option Lexeme) (ts : Items) (x : AstEntry) (u : Items) → r.entry_here_by w ts ≡ read_of (Some x) u → length u < length ts
-entry_here_by_one (Some (lex.Number n)) ts x u e = an_entry_takes ts (Some x) u e
 entry_here_by_one (Some (lex.Sign Colon)) ts x u e = an_entry_takes ts (Some x) u e
-entry_here_by_one w ts x u e = absurd (none_some ts u x e)
+entry_here_by_one w ts x u e = entry_at_one (r.next_literal w) ts x u e
 
 pub entry_here-one : TakesOne r.entry_here
 unfolding r.entry_here
@@ -171,9 +174,8 @@ unfolding r.entry_here
 entry_here_viable F sub = viable_item F r.entry_here_by entry_here-one (λ v after. no_entry_by (head_word v) v (sub (head_word v) after)) (entry_here_cases F (λ w a. entry_no w (sub w a)))
 
 pub entry_here_keeps_by : (w : Option Lexeme) → Keeps AfterEntry (r.entry_here_by w)
-entry_here_keeps_by (Some (lex.Number n)) = keeps_viable AfterEntry _ (an_entry_viable AfterEntry entry_no)
 entry_here_keeps_by (Some (lex.Sign Colon)) = keeps_viable AfterEntry _ (an_entry_viable AfterEntry entry_no)
-entry_here_keeps_by w = keeps_none AfterEntry
+entry_here_keeps_by w = literal_keeps AfterEntry r.an_entry (give None) (keeps_viable AfterEntry _ (an_entry_viable AfterEntry entry_no)) (keeps_none AfterEntry) (r.next_literal w)
 
 pub entry_here_keeps : Keeps AfterEntry r.entry_here
 unfolding r.entry_here

@@ -10,9 +10,10 @@ use Rattle.lara_data.specs.declared.refusal.Kind.TheVariants.{Unexpected}
 use Rattle.lara_syntax.specs.declared.fault.Stop.{Stop}
 use Rattle.lara_key.specs.declared.key.KeyType.TheVariants as key_type_of
 use Rattle.lara_semiring.specs.declared.value.ValType.TheVariants as val_type_of
+use Rattle.lara_syntax.specs.declared.ast.AstValue.{AstValue}
 use Rattle.lara_syntax.specs.declared.ast.AstValue.TheVariants as val
 use Rattle.lara_syntax.specs.declared.item.Keyword.{Keyword}
-use Rattle.lara_syntax.specs.Scripts.{IsSpelled}
+use Rattle.lara_syntax.specs.StartSymbols.{IsSpelled}
 use Rattle.lara_syntax.specs.FixedWords.{keyword_text, sign_text}
 use Rattle.lara_syntax.specs.Steps.{Items, Read, Reader, ◌>>=◌, give, refuse, peek, skip, items_from, head_word}
 use Rattle.lara_syntax.specs.Reading as r
@@ -151,21 +152,30 @@ pub val_type_viable : (F : Option Lexeme → Type 0) → IsViable F r.val_type
 unfolding r.val_type
 val_type_viable F = viable_choice F r.val_type_by (val_type_cases F) (quiet_takes F r.val_type (λ ts x u e. val_type_by_takes (head_word ts) ts x u e)) (token (lex.Key key.Count) ∷ []) (key_spelled key.Count, tt) val_type_of.Count (λ v after. refl)
 
-pub lit_cases : (F : Option Lexeme → Type 0) (w : Option Lexeme) → IsCase F (r.lit_by w)
-lit_cases F (Some (lex.Number n)) = case_viable F _ (viable_behind F (λ at. give (record { at = at; value = val.Number n })) (λ at. reads_give _) (λ at. viable_give F _))
-lit_cases F w = case_refuse F Unexpected
+pub lit_cases : (F : Option Lexeme → Type 0) (v : Option AstValue) → IsCase F (r.lit_of v)
+lit_cases F (Some v) = case_viable F _ (viable_behind F (λ at. give (record { at = at; value = v })) (λ at. reads_give _) (λ at. viable_give F _))
+lit_cases F None = case_refuse F Unexpected
 
-pub lit_by_takes : (w : Option Lexeme) → Takes (r.lit_by w)
-lit_by_takes (Some (lex.Number n)) ts x u e = skip_shortens (λ at. give (record { at = at; value = val.Number n })) (λ at. reads_give _) ts x u e
-lit_by_takes w ts x u e = refuse_takes ts x u e
+pub lit_of_takes : (v : Option AstValue) → Takes (r.lit_of v)
+lit_of_takes (Some v) ts x u e = skip_shortens (λ at. give (record { at = at; value = v })) (λ at. reads_give _) ts x u e
+lit_of_takes None ts x u e = refuse_takes ts x u e
 
 pub lit_takes : Takes r.lit
 unfolding r.lit
-lit_takes ts x u e = lit_by_takes (head_word ts) ts x u e
+lit_takes ts x u e = lit_of_takes (r.next_literal (head_word ts)) ts x u e
+
+-- a choice by whether a literal is next
+pub literal_case : {A : Type 0} (F : Option Lexeme → Type 0) (p q : Reader A) → IsCase F p → IsCase F q → (v : Option AstValue) → IsCase F (r.at_literal p q v)
+literal_case F p q cp cq (Some v) = cp
+literal_case F p q cp cq None = cq
+
+pub literal_keeps : {A : Type 0} (G : Option Lexeme → Type 0) (p q : Reader (Option A)) → Keeps G p → Keeps G q → (v : Option AstValue) → Keeps G (r.at_literal p q v)
+literal_keeps G p q kp kq (Some v) = kp
+literal_keeps G p q kp kq None = kq
 
 pub lit_viable : (F : Option Lexeme → Type 0) → IsViable F r.lit
 unfolding r.lit
-lit_viable F = viable_choice F r.lit_by (lit_cases F) (quiet_takes F r.lit lit_takes) (token (lex.Number 0) ∷ []) (number_spelled, tt) (record { at = 0; value = val.Number 0 }) (λ v after. refl)
+lit_viable F = viable_choice F r.lit_by (λ w. lit_cases F (r.next_literal w)) (quiet_takes F r.lit lit_takes) (token (lex.Number 0) ∷ []) (number_spelled, tt) (record { at = 0; value = val.Number 0 }) (λ v after. refl)
 
 -- two steps of which the first, or the second, takes a word
 pub first_takes : {A B : Type 0} (p : Reader A) (f : A → Reader B) → Takes p → ((x : A) → IsReader (f x)) → Takes (p >>= f)

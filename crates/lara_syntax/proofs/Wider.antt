@@ -2,10 +2,15 @@
 use Rattle.std.proofs.Common.{inl, inr, ◌⊎◌, ◌≡◌, ℕ, ◌<◌, length, Ok, Err, refl, sym, ap, subst, arith}
 use Rattle.lara_data.specs.declared.refusal.Kind.TheVariants.{Unexpected, TooMany}
 use Rattle.lara_syntax.specs.declared.fault.Stop.{Stop}
+use Rattle.lara_syntax.specs.Limits.{Limits}
 use Rattle.lara_syntax.specs.Steps.{Items, Read, Reader, onward, ◌>>=◌, give}
 use Rattle.lara_syntax.proofs.Turns.{erred}
 use Rattle.lara_syntax.proofs.Readers.{IsReader, longer}
 use Rattle.lara_syntax.proofs.PlainRules.{Plain}
+
+-- less of each
+abbrev pub Less : Limits → Limits → Type 0
+Less a b = (a.statements < b.statements) × (a.levels < b.levels) × (a.counted.operators < b.counted.operators)
 
 -- a value of P, or a word that is not expected
 abbrev pub Fits : {A : Type 0} → (A → Type 0) → Read A → Type 0

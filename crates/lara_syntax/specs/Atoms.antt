@@ -1,12 +1,13 @@
 -- What holds no name, no text and no other expression, so that to copy it takes no memory.
 use Rattle.std.specs.Prelude.{Bool, true, false}
-use Rattle.lara_syntax.specs.declared.ast.AstLit.{AstLit}
 use Rattle.lara_syntax.specs.declared.ast.AstValue.{AstValue}
 use Rattle.lara_syntax.specs.declared.ast.AstValue.TheVariants as value
 use Rattle.lara_syntax.specs.declared.ast_expr.AstForm.{AstForm}
 use Rattle.lara_syntax.specs.declared.ast_expr.AstForm.TheVariants as form
 use Rattle.lara_syntax.specs.declared.ast_part.AstArg.{AstArg}
 use Rattle.lara_syntax.specs.declared.ast_part.AstArg.TheVariants as arg
+use Rattle.lara_syntax.specs.declared.ast_part.AstArgValue.{AstArgValue}
+use Rattle.lara_syntax.specs.declared.ast_part.AstArgValue.TheVariants as arg_value
 use Rattle.lara_syntax.specs.declared.token.TokenWord.{TokenWord}
 use Rattle.lara_syntax.specs.declared.token.TokenWord.TheVariants as word
 
@@ -15,9 +16,14 @@ abbrev pub is_plain_value : AstValue → Bool
 is_plain_value (value.Text content) = false
 is_plain_value v = true
 
+-- the value of an argument that is no text
+abbrev pub is_plain_arg_value : AstArgValue → Bool
+is_plain_arg_value (arg_value.Text content) = false
+is_plain_arg_value v = true
+
 -- a value that is no text, not a column
 abbrev pub is_plain_arg : AstArg → Bool
-is_plain_arg (arg.Literal lit) = is_plain_value lit.value
+is_plain_arg (arg.Literal lit) = is_plain_arg_value lit.value
 is_plain_arg (arg.Column name) = false
 
 -- a number, a flag, `inf` or `none`

@@ -1,5 +1,5 @@
 -- The grammar: which words stand for which tree. `X x ts rest` says that ts is x, and behind it rest.
-use Rattle.std.specs.Prelude.{◌≤◌, ◌+◌, ℕ, suc, List, [], ◌∷◌, length, Option, Some, None}
+use Rattle.std.specs.Prelude.{◌≤◌, ℕ, suc, List, [], ◌∷◌, length, Option, Some, None}
 use Rattle.lara_key.specs.declared.key.KeyType.{KeyType}
 use Rattle.lara_key.specs.declared.key.KeyType.TheVariants as key_type_of
 use Rattle.lara_semiring.specs.declared.value.ValType.{ValType}
@@ -10,21 +10,24 @@ use Rattle.lara_syntax.specs.declared.item.Keyword.{Keyword}
 use Rattle.lara_syntax.specs.declared.item.Keyword.TheVariants as key
 use Rattle.lara_syntax.specs.declared.item.Sign.{Sign}
 use Rattle.lara_syntax.specs.declared.item.Sign.TheVariants.{Is, Semi, Comma, Colon, OpenBracket, CloseBracket, OpenBrace, CloseBrace, Open, Close}
+use Rattle.lara_syntax.specs.declared.count.Count.{Count}
+use Rattle.lara_syntax.specs.declared.ast.Ast.{Ast}
 use Rattle.lara_syntax.specs.declared.ast.AstName.{AstName}
 use Rattle.lara_syntax.specs.declared.ast.AstBy.{AstBy}
 use Rattle.lara_syntax.specs.declared.ast.AstKeyCol.{AstKeyCol}
 use Rattle.lara_syntax.specs.declared.ast.AstValCol.{AstValCol}
 use Rattle.lara_syntax.specs.AstTypes.{AstColumns}
 use Rattle.lara_syntax.specs.declared.ast.AstLit.{AstLit}
+use Rattle.lara_syntax.specs.declared.ast.AstValue.{AstValue}
 use Rattle.lara_syntax.specs.declared.ast.AstValue.TheVariants as val
 use Rattle.lara_syntax.specs.declared.ast.AstEntry.{AstEntry}
 use Rattle.lara_syntax.specs.declared.ast.AstNode.{AstNode}
 use Rattle.lara_syntax.specs.declared.ast.AstOp.TheVariants as op
 use Rattle.lara_syntax.specs.declared.ast.AstStatement.{AstStatement}
 use Rattle.lara_syntax.specs.declared.ast.AstStatement.TheVariants as st
-use Rattle.lara_syntax.specs.Limits.{Limits}
+use Rattle.lara_syntax.specs.Limits.{Limits, none_counted, one_operator, together, IsWithin}
 use Rattle.lara_syntax.specs.Steps.{Items}
-use Rattle.lara_syntax.specs.Reading.{node, first_at}
+use Rattle.lara_syntax.specs.Places.{node, first_at}
 
 -- ---- one word
 
@@ -44,9 +47,13 @@ Key k = Word (lex.Key k)
 abbrev pub Named : AstName → Items → Items → Type 0
 Named x = Word (lex.Name x.name) x.at
 
--- lit = NUMBER
+-- the words that are literals, each with its value
+pub data IsLiteral : Lexeme → AstValue → Type 0 where
+  number : (n : ℕ) → IsLiteral (lex.Number n) (val.Number n)
+
+-- lit, one word
 pub data Lit : AstLit → Items → Items → Type 0 where
-  number : (at n : ℕ) (ts rest : Items) → Word (lex.Number n) at ts rest → Lit (record { at = at; value = val.Number n }) ts rest
+  lit : (at : ℕ) (w : Lexeme) (v : AstValue) (ts rest : Items) → IsLiteral w v → Word w at ts rest → Lit (record { at = at; value = v }) ts rest
 
 -- the type of a key column
 pub data KeyTyped : KeyType → Items → Items → Type 0 where
@@ -127,27 +134,27 @@ pub data Leaf : AstNode → Items → Items → Type 0 where
       → Key key.Table at t1 t2 → TypeOf ty t2 t3 → Mark OpenBrace a t3 t4 → Maybe Entries es t4 t5 → Mark CloseBrace b t5 rest
       → Leaf (node at (op.Literal ty es)) t1 rest
 
--- The numbers: how many levels of ( may be opened, and how many operator words there are.
+-- A number: how many levels of ( may be opened. A count: the operator words.
 mutual
   -- operand = leaf | "(" table ")"
-  pub data Operand : ℕ → ℕ → AstNode → Items → Items → Type 0 where
-    leaf : (d : ℕ) (x : AstNode) (ts rest : Items) → Leaf x ts rest → Operand d 0 x ts rest
-    inside : (d n a b : ℕ) (x : AstNode) (t1 t2 t3 rest : Items)
+  pub data Operand : ℕ → Count → AstNode → Items → Items → Type 0 where
+    leaf : (d : ℕ) (x : AstNode) (ts rest : Items) → Leaf x ts rest → Operand d none_counted x ts rest
+    inside : (d : ℕ) (n : Count) (a b : ℕ) (x : AstNode) (t1 t2 t3 rest : Items)
         → Mark Open a t1 t2 → Table d n x t2 t3 → Mark Close b t3 rest
         → Operand (suc d) n x t1 rest
 
   -- table = "join" operand operand | "union" operand operand | "agg" operand "by" [ names ] | operand
-  pub data Table : ℕ → ℕ → AstNode → Items → Items → Type 0 where
-    join : (d m n at : ℕ) (x y : AstNode) (t1 t2 t3 rest : Items)
+  pub data Table : ℕ → Count → AstNode → Items → Items → Type 0 where
+    join : (d : ℕ) (m n : Count) (at : ℕ) (x y : AstNode) (t1 t2 t3 rest : Items)
         → Key key.Join at t1 t2 → Operand d m x t2 t3 → Operand d n y t3 rest
-        → Table d (suc (m + n)) (node at (op.Join x y)) t1 rest
-    union : (d m n at : ℕ) (x y : AstNode) (t1 t2 t3 rest : Items)
+        → Table d (one_operator (together m n)) (node at (op.Join x y)) t1 rest
+    union : (d : ℕ) (m n : Count) (at : ℕ) (x y : AstNode) (t1 t2 t3 rest : Items)
         → Key key.Union at t1 t2 → Operand d m x t2 t3 → Operand d n y t3 rest
-        → Table d (suc (m + n)) (node at (op.Union x y)) t1 rest
-    agg : (d n at by : ℕ) (x : AstNode) (ns : List AstName) (t1 t2 t3 t4 rest : Items)
+        → Table d (one_operator (together m n)) (node at (op.Union x y)) t1 rest
+    agg : (d : ℕ) (n : Count) (at by : ℕ) (x : AstNode) (ns : List AstName) (t1 t2 t3 t4 rest : Items)
         → Key key.Agg at t1 t2 → Operand d n x t2 t3 → Key key.By by t3 t4 → Maybe (Commas Named) ns t4 rest
-        → Table d (suc n) (node at (op.Agg x ns)) t1 rest
-    operand : (d n : ℕ) (x : AstNode) (ts rest : Items) → Operand d n x ts rest → Table d n x ts rest
+        → Table d (one_operator n) (node at (op.Agg x ns)) t1 rest
+    operand : (d : ℕ) (n : Count) (x : AstNode) (ts rest : Items) → Operand d n x ts rest → Table d n x ts rest
 
 -- ---- statements
 
@@ -158,13 +165,13 @@ pub data SomeOrder : Option AstBy → Items → Items → Type 0 where
 
 -- statement = NAME "=" table ";" | "print" NAME [ "by" [ names ] ] ";"
 pub data Statement (limits : Limits) : AstStatement → Items → Items → Type 0 where
-  assign : (a b n : ℕ) (x : AstName) (t : AstNode) (t1 t2 t3 t4 rest : Items)
-      → Named x t1 t2 → Mark Is a t2 t3 → Table limits.levels n t t3 t4 → n ≤ limits.operators → Mark Semi b t4 rest
+  assign : (a b : ℕ) (n : Count) (x : AstName) (t : AstNode) (t1 t2 t3 t4 rest : Items)
+      → Named x t1 t2 → Mark Is a t2 t3 → Table limits.levels n t t3 t4 → IsWithin n limits.counted → Mark Semi b t4 rest
       → Statement limits (st.Assign x.at x t) t1 rest
   print : (at b : ℕ) (x : AstName) (by : Option AstBy) (t1 t2 t3 t4 rest : Items)
       → Key key.Print at t1 t2 → Named x t2 t3 → SomeOrder by t3 t4 → Mark Semi b t4 rest
       → Statement limits (st.Print at x by) t1 rest
 
 -- script = { statement }, within limits
-abbrev pub Script : Limits → List AstStatement → Items → Type 0
-Script limits xs ts = Many (Statement limits) xs ts [] × (length xs ≤ limits.statements)
+abbrev pub Script : Limits → Ast → Items → Type 0
+Script limits tree ts = Many (Statement limits) tree.statements ts [] × (length tree.statements ≤ limits.statements)

@@ -1,12 +1,33 @@
 -- How long a script may be, and how deep.
-use Rattle.std.specs.Prelude.{ℕ}
+use Rattle.std.specs.Prelude.{◌≤◌, ◌+◌, ℕ}
+use Rattle.lara_syntax.specs.declared.count.Count.{Count}
 
--- how many statements a script may have, how many levels of ( a table, and how many operator words a statement
+-- nothing was counted
+abbrev pub none_counted : Count
+none_counted = record { operators = 0 }
+
+-- an operator word more
+abbrev pub one_operator : Count → Count
+one_operator n = record { operators = n.operators + 1 }
+
+-- two parts together
+abbrev pub together : Count → Count → Count
+together m n = record { operators = m.operators + n.operators }
+
+-- no more of anything
+abbrev pub IsWithin : Count → Count → Type 0
+IsWithin n most = n.operators ≤ most.operators
+
+-- how many statements a script may have, how many levels of ( a table, and how many of each counted word a statement
 pub record Limits : Type 0 where
   pub statements : ℕ
   pub levels : ℕ
-  pub operators : ℕ
+  pub counted : Count
 
 -- those of the language
 abbrev pub most : Limits
-most = record { statements = 256; levels = 64; operators = 64 }
+most = record { statements = 256; levels = 64; counted = record { operators = 64 } }
+
+-- the most bytes that a script may have
+abbrev pub most_bytes : ℕ
+most_bytes = 1048576

@@ -1,12 +1,11 @@
--- What bytes stand for as a script.
-use Rattle.std.specs.Prelude.{◌≡◌, ◌-◌, ℕ, zero, suc, List, length, Option, Some, None, Result, Ok, Err, slice_get}
+-- What bytes stand for, by the reader of a start symbol.
+use Rattle.std.specs.Prelude.{◌-◌, ℕ, zero, suc, List, length, Option, Some, None, Result, Ok, Err, slice_get}
 use Rattle.lara_syntax.specs.declared.ast.Ast.{Ast}
-use Rattle.lara_syntax.specs.declared.ast.AstStatement.{AstStatement}
 use Rattle.lara_syntax.specs.declared.item.Item.{Item}
 use Rattle.lara_syntax.specs.declared.fault.Stop.{Stop}
 use Rattle.lara_data.specs.declared.refusal.Refusal.{Refusal}
-use Rattle.lara_syntax.specs.Limits.{most}
-use Rattle.lara_syntax.specs.Steps.{Items, Read}
+use Rattle.lara_syntax.specs.Limits.{Limits, most}
+use Rattle.lara_syntax.specs.Steps.{Items, Read, Reader}
 use Rattle.lara_syntax.specs.Reading.{script}
 use Rattle.lara_syntax.specs.Tokens.{items_of, stop_of}
 
@@ -34,16 +33,20 @@ at_end_of (suc left) token refusal = refusal
 at_end_of zero (Some token) refusal = token
 at_end_of zero None refusal = refusal
 
--- the tree of the statements, or the refusal of what is no token behind them
-abbrev pub accepted : Option Refusal → List AstStatement → Result Ast Refusal
-accepted (Some token) xs = Err token
-accepted None xs = Ok (record { statements = xs })
+-- what was read, or the refusal of what is no token behind its words
+abbrev pub accepted : {A : Type 0} → Option Refusal → A → Result A Refusal
+accepted (Some token) x = Err token
+accepted None x = Ok x
 
 -- what the words give, where the tokens stop so
-abbrev pub answered : ℕ → Items → Option Refusal → Result (List AstStatement) Stop → Result Ast Refusal
-answered size ts token (Ok xs) = accepted token xs
+abbrev pub answered : {A : Type 0} → ℕ → Items → Option Refusal → Result A Stop → Result A Refusal
+answered size ts token (Ok x) = accepted token x
 answered size ts token (Err stop) = Err (at_end_of stop.left token (refusal_of size ts stop))
+
+-- what a reader gives of the bytes, or their first refusal
+abbrev pub parsed_by : {A : Type 0} → (Limits → Reader A) → List ℕ → Result A Refusal
+parsed_by reader bytes = answered (length bytes) (items_of bytes) (stop_of bytes) (read_value (reader most (items_of bytes)))
 
 -- the tree of a script, or its first refusal
 unfoldable pub parsed : List ℕ → Result Ast Refusal
-parsed bytes = answered (length bytes) (items_of bytes) (stop_of bytes) (read_value (script most (items_of bytes)))
+parsed bytes = parsed_by script bytes

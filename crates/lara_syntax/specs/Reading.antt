@@ -1,5 +1,5 @@
 -- Reading from left to right: each rule of the grammar by the word that is next.
-use Rattle.std.specs.Prelude.{ℕ, zero, suc, ◌+◌, Bool, true, false, nat_lt, List, [], ◌∷◌, length, Option, Some, None, if◌then◌else◌}
+use Rattle.std.specs.Prelude.{ℕ, zero, suc, Bool, true, false, nat_lt, List, [], ◌∷◌, length, Option, Some, None, if◌then◌else◌}
 use Rattle.lara_key.specs.declared.key.KeyType.{KeyType}
 use Rattle.lara_key.specs.declared.key.KeyType.TheVariants as key_type_of
 use Rattle.lara_semiring.specs.declared.value.ValType.{ValType}
@@ -11,12 +11,15 @@ use Rattle.lara_syntax.specs.declared.item.Sign.{Sign}
 use Rattle.lara_syntax.specs.declared.item.Sign.TheVariants.{Is, Semi, Comma, Colon, OpenBracket, CloseBracket, OpenBrace, CloseBrace, Open, Close}
 use Rattle.lara_data.specs.declared.refusal.Kind.{Kind}
 use Rattle.lara_data.specs.declared.refusal.Kind.TheVariants.{Unexpected, TooMany}
+use Rattle.lara_syntax.specs.declared.count.Count.{Count}
+use Rattle.lara_syntax.specs.declared.ast.Ast.{Ast}
 use Rattle.lara_syntax.specs.declared.ast.AstName.{AstName}
 use Rattle.lara_syntax.specs.declared.ast.AstBy.{AstBy}
 use Rattle.lara_syntax.specs.declared.ast.AstKeyCol.{AstKeyCol}
 use Rattle.lara_syntax.specs.declared.ast.AstValCol.{AstValCol}
 use Rattle.lara_syntax.specs.AstTypes.{AstColumns}
 use Rattle.lara_syntax.specs.declared.ast.AstLit.{AstLit}
+use Rattle.lara_syntax.specs.declared.ast.AstValue.{AstValue}
 use Rattle.lara_syntax.specs.declared.ast.AstValue.TheVariants as val
 use Rattle.lara_syntax.specs.declared.ast.AstEntry.{AstEntry}
 use Rattle.lara_syntax.specs.declared.ast.AstNode.{AstNode}
@@ -25,7 +28,8 @@ use Rattle.lara_syntax.specs.declared.ast.AstOp.TheVariants as op
 use Rattle.lara_syntax.specs.declared.ast.AstStatement.{AstStatement}
 use Rattle.lara_syntax.specs.declared.ast.AstStatement.TheVariants as st
 use Rattle.lara_syntax.specs.FixedWords.{same_sign}
-use Rattle.lara_syntax.specs.Limits.{Limits}
+use Rattle.lara_syntax.specs.Limits.{Limits, none_counted, one_operator}
+use Rattle.lara_syntax.specs.Places.{node, first_at}
 use Rattle.lara_syntax.specs.Steps.{Reader, ◌>>=◌, give, refuse, peek, skip, items_from, list_from}
 
 -- ---- one word
@@ -72,14 +76,33 @@ val_type_by w = refuse Unexpected
 unfoldable pub val_type : Reader ValType
 val_type = peek >>= val_type_by
 
+-- the value of a word that is a literal
+abbrev pub literal_of : Lexeme → Option AstValue
+literal_of (lex.Number n) = Some (val.Number n)
+literal_of w = None
+
+-- the value of the literal that is next
+abbrev pub next_literal : Option Lexeme → Option AstValue
+next_literal None = None
+next_literal (Some w) = literal_of w
+
+-- p where a literal is next, and q elsewhere
+abbrev pub at_literal : {A : Type 0} → Reader A → Reader A → Option AstValue → Reader A
+at_literal p q (Some v) = p
+at_literal p q None = q
+
+-- a literal, by its value
+abbrev pub lit_of : Option AstValue → Reader AstLit
+lit_of (Some v) = do
+  at ← skip
+  give (record { at = at; value = v })
+lit_of None = refuse Unexpected
+
 -- lit, by the word that is next
 abbrev pub lit_by : Option Lexeme → Reader AstLit
-lit_by (Some (lex.Number n)) = do
-  at ← skip
-  give (record { at = at; value = val.Number n })
-lit_by w = refuse Unexpected
+lit_by w = lit_of (next_literal w)
 
--- lit = NUMBER
+-- lit, one word
 unfoldable pub lit : Reader AstLit
 lit = peek >>= lit_by
 
@@ -181,17 +204,11 @@ lits = do
 
 -- [ lit { "," lit } ], by the word that is next
 abbrev pub some_lits_by : Option Lexeme → Reader (List AstLit)
-some_lits_by (Some (lex.Number n)) = lits
-some_lits_by w = give []
+some_lits_by w = at_literal lits (give []) (next_literal w)
 
 -- [ lit { "," lit } ]
 unfoldable pub some_lits : Reader (List AstLit)
 some_lits = peek >>= some_lits_by
-
--- the place of the first of a list, or another
-abbrev pub first_at : List AstLit → ℕ → ℕ
-first_at [] at = at
-first_at (x ∷ xs) at = x.at
 
 -- entry = [ lit { "," lit } ] ":" lit { "," lit }, at its first word
 unfoldable pub entry : Reader AstEntry
@@ -203,15 +220,16 @@ entry = do
 
 -- ---- [ entries ], entries = entry { ";" entry } [ ";" ]
 
+-- entry, where one is known to begin
+abbrev pub an_entry : Reader (Option AstEntry)
+an_entry = do
+  x ← entry
+  give (Some x)
+
 -- [ entry ], by the word that is next
 abbrev pub entry_here_by : Option Lexeme → Reader (Option AstEntry)
-entry_here_by (Some (lex.Number n)) = do
-  x ← entry
-  give (Some x)
-entry_here_by (Some (lex.Sign Colon)) = do
-  x ← entry
-  give (Some x)
-entry_here_by w = give None
+entry_here_by (Some (lex.Sign Colon)) = an_entry
+entry_here_by w = at_literal an_entry (give None) (next_literal w)
 
 -- [ entry ]
 unfoldable pub entry_here : Reader (Option AstEntry)
@@ -239,10 +257,6 @@ some_entries = entry_here >>= entries_from
 
 -- ---- a table that stands on no other: leaf = NAME | "load" NAME | "table" type "{" [ entries ] "}"
 
--- what makes a table, at its place
-abbrev pub node : ℕ → AstOp → AstNode
-node at what = record { at = at; op = what }
-
 -- leaf, by the word that is next
 abbrev pub leaf_by : Option Lexeme → Reader AstNode
 leaf_by (Some (lex.Name n)) = do
@@ -267,19 +281,19 @@ leaf = peek >>= leaf_by
 
 -- ---- operand = leaf | "(" table ")"
 
--- a table, and how many operator words the statement has up to its end
+-- a table, and what was counted in the statement up to its end
 abbrev pub Counted : Type 0
-Counted = AstNode × ℕ
+Counted = AstNode × Count
 
 -- operand, by the word that is next
-abbrev pub operand_by : (ℕ → Reader Counted) → ℕ → Option Lexeme → Reader Counted
+abbrev pub operand_by : (Count → Reader Counted) → Count → Option Lexeme → Reader Counted
 operand_by inside taken (Some (lex.Sign Open)) = inside taken
 operand_by inside taken w = do
   x ← leaf
   give (x, taken)
 
--- operand = leaf | "(" table ")", where inside reads the second form and taken operator words stand before
-abbrev pub operand_with : (ℕ → Reader Counted) → ℕ → Reader Counted
+-- operand = leaf | "(" table ")", where inside reads the second form and so much was counted before
+abbrev pub operand_with : (Count → Reader Counted) → Count → Reader Counted
 operand_with inside taken = peek >>= operand_by inside taken
 
 -- ---- table = "join" operand operand | "union" operand operand | "agg" operand "by" [ names ] | operand
@@ -294,49 +308,49 @@ unfoldable pub by_word : Reader ℕ
 by_word = peek >>= by_word_by
 
 -- an operator word behind so many others of its statement
-unfoldable pub operator_word : ℕ → ℕ → Reader ℕ
-operator_word limit taken = if nat_lt taken limit then skip else refuse TooMany
+unfoldable pub operator_word : Count → Count → Reader ℕ
+operator_word limit taken = if nat_lt taken.operators limit.operators then skip else refuse TooMany
 
 -- two operands behind an operator word
-abbrev pub two_by : (AstNode → AstNode → AstOp) → (ℕ → Reader Counted) → ℕ → ℕ → Reader Counted
+abbrev pub two_by : (AstNode → AstNode → AstOp) → (Count → Reader Counted) → Count → ℕ → Reader Counted
 two_by what operand taken at = do
-  a ← operand (taken + 1)
+  a ← operand (one_operator taken)
   b ← operand a.1
   give (node at (what a.0 b.0), b.1)
 
 -- "join" operand operand, where at most limit operator words are taken
-abbrev pub join_with : ℕ → (ℕ → Reader Counted) → ℕ → Reader Counted
+abbrev pub join_with : Count → (Count → Reader Counted) → Count → Reader Counted
 join_with limit operand taken = operator_word limit taken >>= two_by op.Join operand taken
 
 -- "union" operand operand, likewise
-abbrev pub union_with : ℕ → (ℕ → Reader Counted) → ℕ → Reader Counted
+abbrev pub union_with : Count → (Count → Reader Counted) → Count → Reader Counted
 union_with limit operand taken = operator_word limit taken >>= two_by op.Union operand taken
 
 -- an operand and names behind an operator word
-abbrev pub agg_by : (ℕ → Reader Counted) → ℕ → ℕ → Reader Counted
+abbrev pub agg_by : (Count → Reader Counted) → Count → ℕ → Reader Counted
 agg_by operand taken at = do
-  a ← operand (taken + 1)
+  a ← operand (one_operator taken)
   by ← by_word
   ns ← some_names
   give (node at (op.Agg a.0 ns), a.1)
 
 -- "agg" operand "by" [ names ], likewise
-abbrev pub agg_with : ℕ → (ℕ → Reader Counted) → ℕ → Reader Counted
+abbrev pub agg_with : Count → (Count → Reader Counted) → Count → Reader Counted
 agg_with limit operand taken = operator_word limit taken >>= agg_by operand taken
 
 -- table, by the word that is next
-abbrev pub table_by : ℕ → (ℕ → Reader Counted) → ℕ → Option Lexeme → Reader Counted
+abbrev pub table_by : Count → (Count → Reader Counted) → Count → Option Lexeme → Reader Counted
 table_by limit operand taken (Some (lex.Key key.Join)) = join_with limit operand taken
 table_by limit operand taken (Some (lex.Key key.Union)) = union_with limit operand taken
 table_by limit operand taken (Some (lex.Key key.Agg)) = agg_with limit operand taken
 table_by limit operand taken w = operand taken
 
 -- table = "join" operand operand | "union" operand operand | "agg" operand "by" [ names ] | operand
-abbrev pub table_with : ℕ → (ℕ → Reader Counted) → ℕ → Reader Counted
+abbrev pub table_with : Count → (Count → Reader Counted) → Count → Reader Counted
 table_with limit operand taken = peek >>= table_by limit operand taken
 
 -- "(" table ")", with the same numbers as operand
-unfoldable pub inside : ℕ → ℕ → ℕ → Reader Counted
+unfoldable pub inside : Count → ℕ → Count → Reader Counted
 inside limit zero taken = refuse TooMany
 inside limit (suc levels) taken = do
   at ← skip
@@ -344,13 +358,13 @@ inside limit (suc levels) taken = do
   end ← sign Close
   give x
 
--- An operand. A statement may have limit operator words, and so many levels of ( may still be opened; taken operator
--- words stand before it.
-unfoldable pub operand : ℕ → ℕ → ℕ → Reader Counted
+-- An operand. A statement may have so much of what is counted as limit says, and so many levels of ( may still be opened;
+-- taken was counted before it.
+unfoldable pub operand : Count → ℕ → Count → Reader Counted
 operand limit levels taken = operand_with (inside limit levels) taken
 
 -- the same of a table
-unfoldable pub table : ℕ → ℕ → ℕ → Reader Counted
+unfoldable pub table : Count → ℕ → Count → Reader Counted
 table limit levels taken = table_with limit (operand limit levels) taken
 
 -- ---- statement = NAME "=" table ";" | "print" NAME [ "by" [ names ] ] ";"
@@ -372,7 +386,7 @@ abbrev pub statement_by : Limits → Option Lexeme → Reader AstStatement
 statement_by limits (Some (lex.Name n)) = do
   x ← name
   is ← sign Is
-  t ← table limits.operators limits.levels 0
+  t ← table limits.counted limits.levels none_counted
   end ← sign Semi
   give (st.Assign x.at x t.0)
 statement_by limits (Some (lex.Key key.Print)) = do
@@ -411,6 +425,12 @@ next_statement limits room = peek >>= next_by limits room
 unfoldable pub statements : Limits → List AstStatement → Reader (List AstStatement)
 statements limits xs = list_from (λ ys. next_statement limits (nat_lt (length ys) limits.statements)) xs
 
+-- the tree of statements
+abbrev pub tree_of : List AstStatement → Ast
+tree_of xs = record { statements = xs }
+
 -- a script within limits
-unfoldable pub script : Limits → Reader (List AstStatement)
-script limits = statements limits []
+unfoldable pub script : Limits → Reader Ast
+script limits = do
+  xs ← statements limits []
+  give (tree_of xs)

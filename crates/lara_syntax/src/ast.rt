@@ -1,6 +1,6 @@
 //! The tree of a script, with the places of its words. A place is a byte of the script, counted from 0.
 use crate::ast_expr::AstExpr;
-use crate::ast_part::{AstCall, AstDef, AstKeyDef, AstPair};
+use crate::ast_part::{AstCall, AstDefs, AstKeyDef, AstPair};
 use lara_base::{Boxed, Content, List, Name};
 use lara_key::KeyType;
 use lara_semiring::ValType;
@@ -63,7 +63,7 @@ pub enum AstOp {
     Join(Boxed<AstNode>, Boxed<AstNode>),
     Union(Boxed<AstNode>, Boxed<AstNode>),
     Agg(Boxed<AstNode>, List<AstName>),
-    Map(Boxed<AstNode>, List<AstDef>),
+    Map(Boxed<AstNode>, AstDefs),
     Filter(Boxed<AstNode>, AstExpr),
     Promote(Boxed<AstNode>, AstKeyDef),
     Rename(Boxed<AstNode>, List<AstPair>),

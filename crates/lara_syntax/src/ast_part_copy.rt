@@ -1,9 +1,9 @@
 //! Copies of expressions and of what holds them.
 ghost use Rattle.std.specs.Prelude.{◌≡◌, IfOk, IsOk, IsTrue};
-ghost use Rattle.lara_syntax.specs.Atoms.{is_atom, is_plain_arg};
+ghost use Rattle.lara_syntax.specs.Atoms.{is_atom, is_plain_arg, is_plain_arg_value};
 
 use crate::ast_expr::{AstExpr, AstForm};
-use crate::ast_part::{AstArg, AstCall, AstDef, AstKeyDef, AstPair};
+use crate::ast_part::{AstArg, AstArgLit, AstArgValue, AstCall, AstDef, AstKeyDef, AstPair};
 use lara_base::{Boxed, Copied};
 use std::alloc::{AllocError, Global};
 
@@ -96,6 +96,31 @@ impl Copied for AstArg {
         match self {
             AstArg::Column(name) => Ok(AstArg::Column(name.copy(alloc)?)),
             AstArg::Literal(lit) => Ok(AstArg::Literal(lit.copy(alloc)?)),
+        }
+    }
+}
+
+impl Copied for AstArgLit {
+    fn copy(&self, alloc: Global) -> Result<AstArgLit, AllocError>
+        ensures same { IfOk result (λ r. r ≡ self.now) }
+        ensures exact { IsTrue (is_plain_arg_value self.now.value) → IsOk result }
+    {
+        Ok(AstArgLit {
+            at: self.at,
+            value: self.value.copy(alloc)?,
+        })
+    }
+}
+
+impl Copied for AstArgValue {
+    fn copy(&self, alloc: Global) -> Result<AstArgValue, AllocError>
+        ensures same { IfOk result (λ r. r ≡ self.now) }
+        ensures exact { IsTrue (is_plain_arg_value self.now) → IsOk result }
+    {
+        match self {
+            AstArgValue::Number(n) => Ok(AstArgValue::Number(*n)),
+            AstArgValue::Text(text) => Ok(AstArgValue::Text(text.copy(alloc)?)),
+            AstArgValue::Flag(flag) => Ok(AstArgValue::Flag(*flag)),
         }
     }
 }

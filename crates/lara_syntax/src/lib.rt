@@ -7,6 +7,7 @@ mod ast_expr;
 mod ast_part;
 mod ast_part_copy;
 mod classes;
+mod count;
 mod fault;
 mod fixed_words;
 mod item;
@@ -24,7 +25,7 @@ pub use ast::{
     AstValCol, AstValue,
 };
 pub use ast_expr::{AstExpr, AstForm};
-pub use ast_part::{AstArg, AstCall, AstDef, AstKeyDef, AstPair};
+pub use ast_part::{AstArg, AstArgLit, AstArgValue, AstCall, AstDef, AstDefs, AstKeyDef, AstPair};
 pub use lara_data::{FunOp, KeyCol, Kind, ReadFault, Refusal, TableType, TwoOp, ValCol};
 pub use parsing::parse;
 pub use token::{Token, TokenList, TokenWord, tokens};

@@ -4,10 +4,12 @@ ghost use Rattle.lara_syntax.specs.declared.ast.Ast.{Ast};
 ghost use Rattle.lara_data.specs.declared.refusal.Refusal.{Refusal};
 ghost use Rattle.lara_data.specs.Judgements.{Judges, FaultJudges};
 ghost use Rattle.lara_syntax.specs.Parsed.{parsed, answered, place_of, refusal_of, at_end_of, read_value};
-ghost use Rattle.lara_syntax.specs.Limits.{most};
+ghost use Rattle.lara_syntax.specs.Decided.{Decides};
+ghost use Rattle.lara_syntax.specs.Grammar.{Script};
+ghost use Rattle.lara_syntax.specs.Limits.{most, most_bytes};
 ghost use Rattle.lara_syntax.specs.Reading.{script};
-ghost use Rattle.lara_syntax.specs.Refusals.{Refuses, RefusesRight};
-ghost use Rattle.lara_syntax.specs.Scripts.{Stands};
+ghost use Rattle.lara_syntax.specs.Refusals.{FirstWrong, RefusesFirst};
+ghost use Rattle.lara_syntax.specs.StartSymbols.{Stands};
 ghost use Rattle.lara_syntax.specs.Tokens.{items_of, stop_of};
 
 use crate::ast::Ast;
@@ -60,9 +62,9 @@ fn answer(
     ensures { Judges (λ ast. ast) (answered size items.now token (read_value (script most items.now))) result }
 {
     match script(alloc, items) {
-        Ok(statements) => match token {
+        Ok(tree) => match token {
             Some(token) => Err(ReadFault::Refused(token)),
-            None => Ok(Ast { statements }),
+            None => Ok(tree),
         },
         Err(Fault::Memory) => Err(ReadFault::Memory),
         Err(Fault::Stopped(stop)) => {
@@ -74,8 +76,8 @@ fn answer(
 
 // The same of bytes.
 #[tactic(auto, unfolding(crate::specs::Parsed::parsed))]
-fn read_script(alloc: Global, bytes: &[u8]) -> Result<Ast, ReadFault>
-    requires { length bytes.now ≤ 1048576 }
+fn exact_tree(alloc: Global, bytes: &[u8]) -> Result<Ast, ReadFault>
+    requires { length bytes.now ≤ most_bytes }
     ensures { Judges (λ ast. ast) (parsed bytes.now) result }
 {
     let ItemList { list, stopped } = read_items(alloc, bytes)?;
@@ -85,19 +87,22 @@ fn read_script(alloc: Global, bytes: &[u8]) -> Result<Ast, ReadFault>
 /// The tree of a script, or the first refusal: the least place at which no script goes on. A token's own refusal comes
 /// before the grammar's at the same place. A script has at most 256 statements, a statement at most 64 operator words, and
 /// a table at most 64 levels of `(`.
-#[tactic(auto, using(crate::proofs::ParsedLaws::parsed_laws, crate::proofs::OneRefusal::parsed_one_refusal))]
+#[tactic(auto, using(crate::proofs::ScriptLaws::parsed_laws))]
 pub fn parse(alloc: Global, bytes: &[u8]) -> Result<Ast, ReadFault>
-    requires { length bytes.now ≤ 1048576 }
-    // The tree stands in the grammar to the bytes.
-    ensures found { IfOk result (λ ast. Stands bytes.now ast) }
+    requires { length bytes.now ≤ most_bytes }
+    // The tree stands in the grammar to the bytes (specs/Grammar.antt).
+    ensures found { IfOk result (λ ast. Stands Script bytes.now ast) }
     // What stands in it is answered, unless memory runs out.
-    ensures only { (ast : Ast) → Stands bytes.now ast → Judges (λ ast. ast) (Ok ast) result }
-    // No script goes on with the refused word, one goes on before it, and the kind is right.
-    ensures refused { IfErr result (λ e. RefusesRight bytes.now e) }
-    // There is one such refusal, and it is answered, unless memory runs out.
-    ensures only_refusal { (refusal : Refusal) → Refuses bytes.now refusal → Judges (λ ast. ast) (Err refusal) result }
+    ensures only { (ast : Ast) → Stands Script bytes.now ast → Judges (λ ast. ast) (Ok ast) result }
+    // A refusal is the first wrong place: no script goes on with its word, one goes on before it, and the kind is right
+    // (specs/Refusals.antt).
+    ensures refused { IfErr result (λ e. RefusesFirst Script bytes.now e) }
+    // There is one such refusal at most, and it is answered, unless memory runs out.
+    ensures only_refusal { (refusal : Refusal) → FirstWrong Script bytes.now refusal → Judges (λ ast. ast) (Err refusal) result }
     // Which tree and which refusal it is.
     ensures exact { Judges (λ ast. ast) (parsed bytes.now) result }
+    // Which tree and which refusal bytes stand for decides the grammar, of all bytes (specs/Decided.antt).
+    ensures laws { Decides Script parsed }
 {
-    read_script(alloc, bytes)
+    exact_tree(alloc, bytes)
 }

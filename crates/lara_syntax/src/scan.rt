@@ -4,6 +4,7 @@ ghost use Rattle.lara_syntax.specs.TokenReadings.{Reads, IsOnlyReading};
 ghost use Rattle.lara_syntax.specs.TokenWords.{GivesStep};
 ghost use Rattle.lara_syntax.specs.Spans.{LiesFrom, AreInOrder, AreSlices};
 ghost use Rattle.lara_syntax.specs.Tokens.{items_of, stop_of};
+ghost use Rattle.lara_syntax.specs.Limits.{most_bytes};
 
 use crate::classes::after_blank;
 use crate::item::Item;
@@ -31,7 +32,7 @@ enum Step<'a> {
 // The step behind white space and comments; `size` is the script's length.
 #[tactic(auto, using(crate::proofs::ItemLaws::step_laws, crate::proofs::WordLaws::word_laws))]
 fn next_item(alloc: Global, size: usize, bytes: &[u8]) -> Result<Step<'_>, AllocError>
-    requires small { size ≤ 1048576 }
+    requires small { size ≤ most_bytes }
     requires within { length bytes.now ≤ size }
     ensures { IfOk result (λ s. GivesStep size bytes.now s) }
 {
@@ -52,7 +53,7 @@ fn next_item(alloc: Global, size: usize, bytes: &[u8]) -> Result<Step<'_>, Alloc
 
 #[tactic(auto, using(crate::proofs::Gather::gather_laws, crate::proofs::WordLaws::word_laws))]
 fn exact_items(alloc: Global, bytes: &[u8]) -> Result<ItemList, AllocError>
-    requires { length bytes.now ≤ 1048576 }
+    requires { length bytes.now ≤ most_bytes }
     ensures { IfOk result (λ t. (t.list ≡ items_of bytes.now) × (t.stopped ≡ stop_of bytes.now)) }
 {
     let size = bytes.len();
@@ -84,7 +85,7 @@ fn exact_items(alloc: Global, bytes: &[u8]) -> Result<ItemList, AllocError>
 /// The items of a script of at most 1,048,576 bytes, and where they stop before its end.
 #[tactic(auto, using(crate::proofs::ItemLaws::item_laws, crate::proofs::ReadLaws::read_laws, crate::proofs::SliceLaws::slice_laws))]
 pub fn read_items(alloc: Global, bytes: &[u8]) -> Result<ItemList, AllocError>
-    requires { length bytes.now ≤ 1048576 }
+    requires { length bytes.now ≤ most_bytes }
     ensures exact { IfOk result (λ t. (t.list ≡ items_of bytes.now) × (t.stopped ≡ stop_of bytes.now)) }
     ensures order { IfOk result (λ t. AreInOrder 0 (length bytes.now) t.list t.stopped) }
     ensures inside { IfOk result (λ t. LiesFrom 0 (length bytes.now) t.stopped) }

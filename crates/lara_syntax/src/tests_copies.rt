@@ -7,8 +7,10 @@ use crate::ast::{
     AstValue,
 };
 use crate::ast_expr::{AstExpr, AstForm};
-use crate::ast_part::{AstArg, AstCall, AstDef, AstKeyDef, AstPair};
-use crate::tests_grammar::{behind_lit, behind_name, behind_names, behind_node, behind_statement};
+use crate::ast_part::{
+    AstArg, AstArgLit, AstArgValue, AstCall, AstDef, AstDefs, AstKeyDef, AstPair,
+};
+use crate::tests_grammar::{behind_name, behind_names, behind_node, behind_statement};
 use crate::tests_shown::{behind, behind_number, behind_place, copy_of, is_end};
 use crate::tests_tokens::{are_shown, behind_word};
 use crate::token::{Token, TokenList, TokenWord};
@@ -229,8 +231,12 @@ fn column_arg(alloc: Global) -> Result<AstArg, AllocError> {
     Ok(AstArg::Column(placed(alloc, b'a')?))
 }
 
-fn literal_arg(alloc: Global) -> Result<AstArg, AllocError> {
-    Ok(AstArg::Literal(lit(alloc, Ok(AstValue::Flag(true)))?))
+fn literal_arg(value: AstArgValue) -> AstArg {
+    AstArg::Literal(AstArgLit { at: 7, value })
+}
+
+fn text_arg(alloc: Global) -> Result<AstArg, AllocError> {
+    Ok(literal_arg(AstArgValue::Text(text(alloc, b't')?)))
 }
 
 // A call with one argument and one column.
@@ -240,8 +246,12 @@ fn call(alloc: Global, arg: Result<AstArg, AllocError>) -> Result<AstCall, Alloc
     Ok(AstCall { plugin, args, cols })
 }
 
+fn defs(alloc: Global) -> Result<AstDefs, AllocError> {
+    AstDefs::new(one(alloc, def(alloc))?).ok_or(AllocError)
+}
+
 fn map_op(alloc: Global) -> Result<AstOp, AllocError> {
-    let (a, defs) = both(named(alloc), one(alloc, def(alloc)))?;
+    let (a, defs) = both(named(alloc), defs(alloc))?;
     Ok(AstOp::Map(a, defs))
 }
 
@@ -280,12 +290,26 @@ fn behind_pairs<'a>(want: &'a [u8], pairs: &[AstPair]) -> Option<&'a [u8]> {
     Some(rest)
 }
 
+fn behind_arg_value<'a>(want: &'a [u8], value: &AstArgValue) -> Option<&'a [u8]> {
+    match value {
+        AstArgValue::Number(n) => behind_number(want, *n),
+        AstArgValue::Text(text) => behind(behind(want, text.bytes().as_slice())?, b"!"),
+        AstArgValue::Flag(true) => behind(want, b"true"),
+        AstArgValue::Flag(false) => behind(want, b"false"),
+    }
+}
+
+// What is left behind `VALUE@PLACE `.
+fn behind_arg<'a>(want: &'a [u8], lit: &AstArgLit) -> Option<&'a [u8]> {
+    behind_place(behind(behind_arg_value(want, &lit.value)?, b"@")?, lit.at)
+}
+
 fn behind_args<'a>(want: &'a [u8], args: &[AstArg]) -> Option<&'a [u8]> {
     let mut rest = want;
     for arg in args {
         rest = match arg {
             AstArg::Column(name) => behind_name(rest, name)?,
-            AstArg::Literal(lit) => behind_lit(rest, lit)?,
+            AstArg::Literal(lit) => behind_arg(rest, lit)?,
         };
     }
     Some(rest)
@@ -297,7 +321,7 @@ fn behind_table<'a>(want: &'a [u8], node: &AstNode) -> Option<&'a [u8]> {
     match &node.op {
         AstOp::Map(a, defs) => {
             let rest = behind_node(behind(rest, b"map ")?, a.get())?;
-            behind_defs(rest, defs.as_slice())
+            behind_defs(rest, defs.list().as_slice())
         }
         AstOp::Filter(a, test) => behind_expr(
             behind_node(behind(rest, b"filter ")?, a.get())?,
@@ -356,8 +380,10 @@ fn calls_are_copied(rt: HostRuntime) -> Result<(), Fail> {
     let alloc = rt.alloc();
     let column = apply_op(alloc, column_arg(alloc));
     assert!(rt; is_table_copied_as(alloc, column, b"7 apply 7 T@7 p@7 a@7 by c@7 ")?);
-    let literal = apply_op(alloc, literal_arg(alloc));
-    assert!(rt; is_table_copied_as(alloc, literal, b"7 apply 7 T@7 p@7 true@7 by c@7 ")?);
+    let flag = apply_op(alloc, Ok(literal_arg(AstArgValue::Flag(true))));
+    assert!(rt; is_table_copied_as(alloc, flag, b"7 apply 7 T@7 p@7 true@7 by c@7 ")?);
+    let text = apply_op(alloc, text_arg(alloc));
+    assert!(rt; is_table_copied_as(alloc, text, b"7 apply 7 T@7 p@7 t!@7 by c@7 ")?);
     Ok(())
 }
 

@@ -98,7 +98,7 @@ fn behind_value<'a>(want: &'a [u8], value: &AstValue) -> Option<&'a [u8]> {
 }
 
 // What is left behind `VALUE@PLACE `.
-pub fn behind_lit<'a>(want: &'a [u8], lit: &AstLit) -> Option<&'a [u8]> {
+fn behind_lit<'a>(want: &'a [u8], lit: &AstLit) -> Option<&'a [u8]> {
     behind_place(behind(behind_value(want, &lit.value)?, b"@")?, lit.at)
 }
 

@@ -3,6 +3,7 @@ ghost use Rattle.std.specs.Prelude.{◌≡◌, ◌≤◌, [], length, map, IfOk,
 ghost use Rattle.lara_syntax.specs.Atoms.{is_plain_word};
 ghost use Rattle.lara_syntax.specs.Tokens.{items_of, stop_of};
 ghost use Rattle.lara_syntax.specs.TokenLists.{token_of, Show, ShowAll};
+ghost use Rattle.lara_syntax.specs.Limits.{most_bytes};
 
 use crate::item::{Item, Lexeme};
 use crate::scan::{ItemList, read_items};
@@ -107,7 +108,7 @@ fn tokens_of(alloc: Global, items: List<Item>) -> Result<List<Token>, AllocError
 }
 
 fn exact_tokens(alloc: Global, bytes: &[u8]) -> Result<TokenList, AllocError>
-    requires { length bytes.now ≤ 1048576 }
+    requires { length bytes.now ≤ most_bytes }
     ensures { IfOk result (λ t. (t.list ≡ map token_of (items_of bytes.now)) × (t.stopped ≡ stop_of bytes.now)) }
 {
     let ItemList { list, stopped } = read_items(alloc, bytes)?;
@@ -122,7 +123,7 @@ fn exact_tokens(alloc: Global, bytes: &[u8]) -> Result<TokenList, AllocError>
 /// that begins no token is `BadByte`. Each refusal has its token's first byte as place.
 #[tactic(auto, using(crate::proofs::SliceLaws::token_laws))]
 pub fn tokens(alloc: Global, bytes: &[u8]) -> Result<TokenList, AllocError>
-    requires { length bytes.now ≤ 1048576 }
+    requires { length bytes.now ≤ most_bytes }
     ensures exact { IfOk result (λ t. (t.list ≡ map token_of (items_of bytes.now)) × (t.stopped ≡ stop_of bytes.now)) }
     ensures reading { IfOk result (λ t. Show bytes.now t.list t.stopped) }
     ensures only { IfOk result (λ t. ShowAll bytes.now t.list t.stopped) }

@@ -10,8 +10,8 @@ use lara_data::{Kind, Op, ReadFault, Schema, Script, Statement};
 use lara_key::KeyType;
 use lara_semiring::ValType;
 use lara_syntax::{
-    Ast, AstCall, AstEntry, AstExpr, AstForm, AstKeyCol, AstKeyDef, AstLit, AstName, AstNode,
-    AstOp, AstStatement, AstType, AstValCol, AstValue, parse,
+    Ast, AstCall, AstDef, AstDefs, AstEntry, AstExpr, AstForm, AstKeyCol, AstKeyDef, AstLit,
+    AstName, AstNode, AstOp, AstStatement, AstType, AstValCol, AstValue, parse,
 };
 use std::alloc::{AllocError, Global};
 use std::test::Fail;
@@ -305,8 +305,16 @@ fn expr() -> AstExpr {
     }
 }
 
+// The definition of one value column.
+fn defs(alloc: Global) -> Result<AstDefs, AllocError> {
+    let col = val_col(alloc)?;
+    let expr = expr();
+    AstDefs::new(one(alloc, Ok(AstDef { col, expr }))?).ok_or(AllocError)
+}
+
 fn map(alloc: Global) -> Result<AstOp, AllocError> {
-    Ok(AstOp::Map(operand(alloc)?, List::new(alloc)))
+    let (a, defs) = both(operand(alloc), defs(alloc))?;
+    Ok(AstOp::Map(a, defs))
 }
 
 fn filter(alloc: Global) -> Result<AstOp, AllocError> {

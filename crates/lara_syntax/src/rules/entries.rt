@@ -2,7 +2,8 @@
 ghost use Rattle.std.specs.Prelude.{◌≡◌, ◌∷◌, ◌+◌, ◌≤◌, ◌<◌, [], length, IfOk};
 ghost use Rattle.lara_syntax.specs.Returns.{Returns};
 ghost use Rattle.lara_syntax.specs.Steps.{Gives, items_from};
-ghost use Rattle.lara_syntax.specs.Reading.{lit, comma_lit, lits, some_lits, first_at, entry, entry_here, semi_entry, some_entries};
+ghost use Rattle.lara_syntax.specs.Places.{first_at};
+ghost use Rattle.lara_syntax.specs.Reading.{literal_of, lit, comma_lit, lits, some_lits, entry, an_entry, entry_here, semi_entry, some_entries};
 
 use crate::ast::{AstEntry, AstLit, AstValue};
 use crate::fault::{Fault, Stop};
@@ -12,7 +13,17 @@ use lara_base::List;
 use lara_data::Kind;
 use std::alloc::Global;
 
-// lit = NUMBER
+// The value of a word that is a literal.
+fn literal_of(lexeme: &Lexeme) -> Option<AstValue>
+    ensures { result ≡ literal_of lexeme.now }
+{
+    match lexeme {
+        Lexeme::Number(n) => Some(AstValue::Number(*n)),
+        _ => None,
+    }
+}
+
+// lit, one word
 #[tactic(auto, unfolding(crate::specs::Reading::lit))]
 fn lit(items: &[Item]) -> Result<(AstLit, &[Item]), Stop>
     ensures { Returns (λ x. (x.0, x.1.now)) result (lit items.now) }
@@ -20,15 +31,9 @@ fn lit(items: &[Item]) -> Result<(AstLit, &[Item]), Stop>
     let Some((item, rest)) = next(items) else {
         return Err(stopped(items, Kind::Unexpected));
     };
-    match &item.lexeme {
-        Lexeme::Number(n) => Ok((
-            AstLit {
-                at: item.at,
-                value: AstValue::Number(*n),
-            },
-            rest,
-        )),
-        _ => Err(stopped(items, Kind::Unexpected)),
+    match literal_of(&item.lexeme) {
+        Some(value) => Ok((AstLit { at: item.at, value }, rest)),
+        None => Err(stopped(items, Kind::Unexpected)),
     }
 }
 
@@ -89,9 +94,9 @@ fn some_lits(alloc: Global, items: &[Item]) -> Result<(List<AstLit>, &[Item]), F
     let Some((item, _)) = next(items) else {
         return Ok((List::new(alloc), items));
     };
-    match &item.lexeme {
-        Lexeme::Number(_) => lits(alloc, items),
-        _ => Ok((List::new(alloc), items)),
+    match literal_of(&item.lexeme) {
+        Some(_) => lits(alloc, items),
+        None => Ok((List::new(alloc), items)),
     }
 }
 
@@ -117,6 +122,14 @@ fn entry(alloc: Global, items: &[Item]) -> Result<(AstEntry, &[Item]), Fault>
     Ok((AstEntry { at, key, row }, rest))
 }
 
+// entry, where one is known to begin
+fn an_entry(alloc: Global, items: &[Item]) -> Result<(Option<AstEntry>, &[Item]), Fault>
+    ensures { Gives (λ x. (x.0, x.1.now)) result (an_entry items.now) }
+{
+    let (x, rest) = entry(alloc, items)?;
+    Ok((Some(x), rest))
+}
+
 // [ entry ]
 #[tactic(auto, unfolding(crate::specs::Reading::entry_here))]
 fn entry_here(alloc: Global, items: &[Item]) -> Result<(Option<AstEntry>, &[Item]), Fault>
@@ -125,12 +138,12 @@ fn entry_here(alloc: Global, items: &[Item]) -> Result<(Option<AstEntry>, &[Item
     let Some((item, _)) = next(items) else {
         return Ok((None, items));
     };
-    match &item.lexeme {
-        Lexeme::Number(_) | Lexeme::Sign(Sign::Colon) => {
-            let (x, rest) = entry(alloc, items)?;
-            Ok((Some(x), rest))
-        }
-        _ => Ok((None, items)),
+    if let Lexeme::Sign(Sign::Colon) = &item.lexeme {
+        return an_entry(alloc, items);
+    }
+    match literal_of(&item.lexeme) {
+        Some(_) => an_entry(alloc, items),
+        None => Ok((None, items)),
     }
 }
 

@@ -5,7 +5,8 @@ ghost use Rattle.lara_syntax.specs.Reading.{some_order, statement, no_room, next
 ghost use Rattle.lara_syntax.specs.Limits.{most};
 ghost use Rattle.lara_syntax.specs.Parsed.{read_value};
 
-use crate::ast::{AstBy, AstStatement};
+use crate::ast::{Ast, AstBy, AstStatement};
+use crate::count::Count;
 use crate::fault::Fault;
 use crate::item::{Item, Keyword, Lexeme, Sign};
 use crate::rules::names::some_names;
@@ -50,7 +51,8 @@ fn statement(alloc: Global, items: &[Item]) -> Result<(AstStatement, &[Item]), F
         Lexeme::Name(_) => {
             let (name, rest) = name(alloc, items)?;
             let (_, rest) = sign(rest, Sign::Is)?;
-            let (node, _, rest) = table(alloc, MOST_LEVELS, 0, rest)?;
+            let none = Count { operators: 0 };
+            let (node, _, rest) = table(alloc, MOST_LEVELS, none, rest)?;
             let (_, rest) = sign(rest, Sign::Semi)?;
             let at = name.at;
             Ok((AstStatement::Assign { at, name, node }, rest))
@@ -98,7 +100,7 @@ fn next_statement(
 
 // Whether there is room for one more.
 fn has_room(before: &[AstStatement]) -> bool
-    ensures { result ≡ nat_lt (length before.now) 256 }
+    ensures { result ≡ nat_lt (length before.now) most.statements }
 {
     before.len() < MOST_STATEMENTS
 }
@@ -123,9 +125,9 @@ fn statements(alloc: Global, items: &[Item]) -> Result<(List<AstStatement>, &[It
 
 /// The script that the words are.
 #[tactic(auto, unfolding(crate::specs::Reading::script))]
-pub fn script(alloc: Global, items: &[Item]) -> Result<List<AstStatement>, Fault>
+pub fn script(alloc: Global, items: &[Item]) -> Result<Ast, Fault>
     ensures { Gives (λ x. x) result (read_value (script most items.now)) }
 {
-    let (xs, _) = statements(alloc, items)?;
-    Ok(xs)
+    let (statements, _) = statements(alloc, items)?;
+    Ok(Ast { statements })
 }

@@ -1,10 +1,12 @@
-//! Tables, with how many operator words their statement has up to their end.
+//! Tables, with what is counted in their statement up to their end.
 ghost use Rattle.std.specs.Prelude.{◌≡◌, ◌∷◌, ◌+◌, ◌≤◌, ◌<◌, [], length, IfOk};
+ghost use Rattle.lara_syntax.specs.Limits.{most};
 ghost use Rattle.lara_syntax.specs.Returns.{Returns};
 ghost use Rattle.lara_syntax.specs.Steps.{Gives};
 ghost use Rattle.lara_syntax.specs.Reading.{by_word, operator_word, join_with, union_with, agg_with, inside, operand, table};
 
 use crate::ast::{AstNode, AstOp};
+use crate::count::Count;
 use crate::fault::{Fault, Stop};
 use crate::item::{Item, Keyword, Lexeme, Sign};
 use crate::rules::leaves::leaf;
@@ -13,9 +15,6 @@ use crate::steps::{next, sign, stopped};
 use lara_base::Boxed;
 use lara_data::Kind;
 use std::alloc::Global;
-
-// How many operator words a statement may have.
-const MOST_OPERATORS: u32 = 64;
 
 // The place of "by".
 #[tactic(auto, unfolding(crate::specs::Reading::by_word))]
@@ -33,11 +32,11 @@ fn by_word(items: &[Item]) -> Result<(u32, &[Item]), Stop>
 
 // The place of an operator word behind so many others.
 #[tactic(auto, unfolding(crate::specs::Reading::operator_word))]
-fn operator_word(items: &[Item], taken: u32) -> Result<(u32, &[Item]), Stop>
-    ensures gives { Returns (λ x. (x.0, x.1.now)) result (operator_word 64 taken items.now) }
-    ensures room { IfOk result (λ x. taken < 64) }
+fn operator_word(items: &[Item], taken: Count) -> Result<(u32, &[Item]), Stop>
+    ensures gives { Returns (λ x. (x.0, x.1.now)) result (operator_word most.counted taken items.now) }
+    ensures room { IfOk result (λ x. taken.operators < most.counted.operators) }
 {
-    if taken < MOST_OPERATORS {
+    if taken.has_room() {
         let Some((item, rest)) = next(items) else {
             return Err(stopped(items, Kind::Unexpected));
         };
@@ -52,13 +51,13 @@ fn operator_word(items: &[Item], taken: u32) -> Result<(u32, &[Item]), Stop>
 fn join(
     alloc: Global,
     levels: u32,
-    taken: u32,
+    taken: Count,
     items: &[Item],
-) -> Result<(AstNode, u32, &[Item]), Fault>
-    ensures { Gives (λ x. ((x.0, x.1), x.2.now)) result (join_with 64 (operand 64 levels) taken items.now) }
+) -> Result<(AstNode, Count, &[Item]), Fault>
+    ensures { Gives (λ x. ((x.0, x.1), x.2.now)) result (join_with most.counted (operand most.counted levels) taken items.now) }
 {
     let (at, rest) = operator_word(items, taken)?;
-    let (a, taken, rest) = operand(alloc, levels, taken + 1, rest)?;
+    let (a, taken, rest) = operand(alloc, levels, taken.one_operator(), rest)?;
     let (b, taken, rest) = operand(alloc, levels, taken, rest)?;
     let op = AstOp::Join(Boxed::new(alloc, a)?, Boxed::new(alloc, b)?);
     Ok((AstNode { at, op }, taken, rest))
@@ -69,13 +68,13 @@ fn join(
 fn union(
     alloc: Global,
     levels: u32,
-    taken: u32,
+    taken: Count,
     items: &[Item],
-) -> Result<(AstNode, u32, &[Item]), Fault>
-    ensures { Gives (λ x. ((x.0, x.1), x.2.now)) result (union_with 64 (operand 64 levels) taken items.now) }
+) -> Result<(AstNode, Count, &[Item]), Fault>
+    ensures { Gives (λ x. ((x.0, x.1), x.2.now)) result (union_with most.counted (operand most.counted levels) taken items.now) }
 {
     let (at, rest) = operator_word(items, taken)?;
-    let (a, taken, rest) = operand(alloc, levels, taken + 1, rest)?;
+    let (a, taken, rest) = operand(alloc, levels, taken.one_operator(), rest)?;
     let (b, taken, rest) = operand(alloc, levels, taken, rest)?;
     let op = AstOp::Union(Boxed::new(alloc, a)?, Boxed::new(alloc, b)?);
     Ok((AstNode { at, op }, taken, rest))
@@ -86,13 +85,13 @@ fn union(
 fn agg(
     alloc: Global,
     levels: u32,
-    taken: u32,
+    taken: Count,
     items: &[Item],
-) -> Result<(AstNode, u32, &[Item]), Fault>
-    ensures { Gives (λ x. ((x.0, x.1), x.2.now)) result (agg_with 64 (operand 64 levels) taken items.now) }
+) -> Result<(AstNode, Count, &[Item]), Fault>
+    ensures { Gives (λ x. ((x.0, x.1), x.2.now)) result (agg_with most.counted (operand most.counted levels) taken items.now) }
 {
     let (at, rest) = operator_word(items, taken)?;
-    let (a, taken, rest) = operand(alloc, levels, taken + 1, rest)?;
+    let (a, taken, rest) = operand(alloc, levels, taken.one_operator(), rest)?;
     let (_, rest) = by_word(rest)?;
     let (names, rest) = some_names(alloc, rest)?;
     let op = AstOp::Agg(Boxed::new(alloc, a)?, names);
@@ -105,10 +104,10 @@ fn agg(
 fn inside(
     alloc: Global,
     levels: u32,
-    taken: u32,
+    taken: Count,
     items: &[Item],
-) -> Result<(AstNode, u32, &[Item]), Fault>
-    ensures { Gives (λ x. ((x.0, x.1), x.2.now)) result (inside 64 levels taken items.now) }
+) -> Result<(AstNode, Count, &[Item]), Fault>
+    ensures { Gives (λ x. ((x.0, x.1), x.2.now)) result (inside most.counted levels taken items.now) }
 {
     if levels == 0 {
         return Err(stopped(items, Kind::TooMany).into());
@@ -127,10 +126,10 @@ fn inside(
 fn operand(
     alloc: Global,
     levels: u32,
-    taken: u32,
+    taken: Count,
     items: &[Item],
-) -> Result<(AstNode, u32, &[Item]), Fault>
-    ensures { Gives (λ x. ((x.0, x.1), x.2.now)) result (operand 64 levels taken items.now) }
+) -> Result<(AstNode, Count, &[Item]), Fault>
+    ensures { Gives (λ x. ((x.0, x.1), x.2.now)) result (operand most.counted levels taken items.now) }
 {
     if let Some((item, _)) = next(items)
         && let Lexeme::Sign(Sign::Open) = &item.lexeme
@@ -147,10 +146,10 @@ fn operand(
 pub fn table(
     alloc: Global,
     levels: u32,
-    taken: u32,
+    taken: Count,
     items: &[Item],
-) -> Result<(AstNode, u32, &[Item]), Fault>
-    ensures { Gives (λ x. ((x.0, x.1), x.2.now)) result (table 64 levels taken items.now) }
+) -> Result<(AstNode, Count, &[Item]), Fault>
+    ensures { Gives (λ x. ((x.0, x.1), x.2.now)) result (table most.counted levels taken items.now) }
 {
     let Some((item, _)) = next(items) else {
         return operand(alloc, levels, taken, items);
