@@ -1,7 +1,10 @@
 pub mod ArgumentFacts
 pub mod Chains
+pub mod Ends
 pub mod Limits
 pub mod NoTables
 pub mod PrintFacts
 pub mod Reaching
+pub mod Scripts
 pub mod TextFacts
+pub mod WorkedEndings

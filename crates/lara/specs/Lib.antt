@@ -1,6 +1,8 @@
+pub mod Commands
 pub mod Endings
 pub mod Invocations
 pub mod Lines
+pub mod OutcomeTable
 pub mod Prints
 pub mod Ruling
 pub mod ScriptBytes

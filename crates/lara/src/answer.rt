@@ -6,7 +6,9 @@ ghost use Rattle.lara_data.specs.Denotations.{denotation};
 ghost use Rattle.lara_types.specs.Checks.{checked};
 ghost use Rattle.lara.specs.Stops.{at_types};
 ghost use Rattle.lara.specs.ScriptBytes.{tree_of, at_step, outcome_of_fault};
-ghost use Rattle.lara.specs.Ruling.{statements_of, script_ruling};
+ghost use Rattle.lara.specs.Commands.{script_limit};
+ghost use Rattle.lara.specs.Ruling.{printed, prints_text, statements_of, script_ruling};
+ghost use Rattle.lara_syntax.specs.Limits.{most};
 ghost use Rattle.lara.specs.Endings.{Gives, StopsScript, no_fault};
 ghost use Rattle.lara.specs.declared.outcome.Outcome.TheVariants.{Memory};
 
@@ -34,9 +36,9 @@ fn unread(fault: ReadFault) -> Outcome
 
 // The tree of a script.
 fn read_tree(alloc: Global, script: &[u8]) -> Result<Ast, Outcome>
-    requires { length script.now ≤ 1048576 }
+    requires { length script.now ≤ script_limit }
     ensures gives { Gives (λ tree. tree) no_fault (tree_of script.now) result }
-    ensures few { IfOk result (λ tree. length tree.statements ≤ 256) }
+    ensures few { IfOk result (λ tree. length tree.statements ≤ most.statements) }
     ensures stops { IfErr result StopsScript }
 {
     parse(alloc, script).map_err(unread)
@@ -58,9 +60,9 @@ fn read_statements(
     script: &[u8],
     plugins: &Vec<Box<dyn Plugin>>,
 ) -> Result<Script, Outcome>
-    requires { length script.now ≤ 1048576 }
+    requires { length script.now ≤ script_limit }
     ensures gives { Gives (λ statements. statements) no_fault (statements_of script.now) result }
-    ensures few { IfOk result (λ statements. length statements ≤ 256) }
+    ensures few { IfOk result (λ statements. length statements ≤ most.statements) }
     ensures fits { IfOk result (ScriptFits (handed ⟦<dyn Plugin as Plugin>⟧ plugins.now.items) []) }
     ensures stops { IfErr result StopsScript }
 {
@@ -82,18 +84,25 @@ fn plain_answers(
     Ok(eval(alloc, script, &List::new(alloc), plugins)?)
 }
 
+// The text of what was printed.
+fn printed_text(alloc: Global, answers: &Answers) -> Result<Bytes, Outcome>
+    ensures gives { Gives (λ text. text) no_fault (prints_text answers.now.prints) result }
+    ensures stops { IfErr result StopsScript }
+{
+    prints_text(alloc, &answers.prints)
+}
+
 /// The text of what a script prints.
-#[tactic(auto, unfolding(crate::specs::Ruling::script_ruling))]
 pub fn answer(
     alloc: Global,
     script: &[u8],
     plugins: &Vec<Box<dyn Plugin>>,
 ) -> Result<Bytes, Outcome>
-    requires { length script.now ≤ 1048576 }
-    ensures gives { Gives (λ text. text) no_fault (script_ruling (handed ⟦<dyn Plugin as Plugin>⟧ plugins.now.items) script.now) result }
+    requires { length script.now ≤ script_limit }
+    ensures gives { Gives printed no_fault (script_ruling (handed ⟦<dyn Plugin as Plugin>⟧ plugins.now.items) script.now) result }
     ensures stops { IfErr result StopsScript }
 {
     let script = read_statements(alloc, script, plugins)?;
     let answers = plain_answers(alloc, &script, plugins)?;
-    prints_text(alloc, &answers.prints)
+    printed_text(alloc, &answers)
 }
