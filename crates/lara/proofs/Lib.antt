@@ -5,6 +5,8 @@ pub mod Limits
 pub mod NoTables
 pub mod PrintFacts
 pub mod Reaching
+pub mod RunLaws
 pub mod Scripts
 pub mod TextFacts
 pub mod WorkedEndings
+pub mod WorkedLines

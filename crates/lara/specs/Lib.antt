@@ -5,6 +5,7 @@ pub mod Lines
 pub mod OutcomeTable
 pub mod Prints
 pub mod Ruling
+pub mod RunRelations
 pub mod ScriptBytes
 pub mod Statuses
 pub mod Stops

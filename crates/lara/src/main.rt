@@ -34,7 +34,7 @@ fn main(rt: HostRuntime) -> ExitCode {
         &mut StdinSource::new(rt.stdin()),
         &mut StdoutSink::new(rt.stdout()),
         &mut StderrSink::new(rt.stderr()),
-        &Vec::new(alloc),
+        Ok(Vec::new(alloc)),
     );
     outcome.exit_code()
 }

@@ -8,6 +8,7 @@ ghost use Rattle.lara.specs.Commands.{HasInput, ReadsInput, Told, CanCome, most_
 ghost use Rattle.lara.specs.Ruling.{Answer, printed, command_ruling, ruling, Front, Tells, call_shows};
 ghost use Rattle.lara.specs.Endings.{Gives, Caused, Quiet, Exactly, IsExact, ByWords, Reaches, source_shows, outcome_of};
 ghost use Rattle.lara.specs.Stops.{at_input};
+ghost use Rattle.lara.specs.RunRelations.{RunTells};
 ghost use Rattle.lara.specs.Lines.{line_of};
 ghost use Rattle.lara.specs.declared.outcome.Outcome.{Outcome};
 ghost use Rattle.lara_data.specs.declared.refusal.Kind.{Kind};
@@ -147,6 +148,10 @@ pub fn lara<S: Source, O: Sink, E: Sink>(
     ensures refusals { (refusal : Outcome) → IsExact refusal → Told (ReadsInput (command_of words.now)) (S.left input.old) (λ bytes. Exactly (ruling (handed ⟦<dyn Plugin as Plugin>⟧ plugins.now.items) words.now bytes) refusal result) }
     ensures script { (at : ℕ) (kind : Kind) → Told (ReadsInput (command_of words.now)) (S.left input.old) (λ bytes. Exactly (ruling (handed ⟦<dyn Plugin as Plugin>⟧ plugins.now.items) words.now bytes) (Outcome.Script at kind) result) }
     ensures range { (statement : ℕ) → Told (ReadsInput (command_of words.now)) (S.left input.old) (λ bytes. Exactly (ruling (handed ⟦<dyn Plugin as Plugin>⟧ plugins.now.items) words.now bytes) (Outcome.Range statement) result) }
+
+    // A run, in the relations of the grammar and of the types themselves: which bytes are a script of which statements, and
+    // why the others are none (specs/RunRelations.antt).
+    ensures relations { command_of words.now ≡ Ok Command.Run → Told (ReadsInput (command_of words.now)) (S.left input.old) (λ bytes. RunTells (handed ⟦<dyn Plugin as Plugin>⟧ plugins.now.items) bytes result (O.held out.old) (O.held out.new)) }
 
     // A fault comes only where that device's count rose, of the input only where the words are a command, and of the output
     // only where the rules answer.

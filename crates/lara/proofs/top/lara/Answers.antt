@@ -3,6 +3,7 @@ use Rattle.lara_base.specs.Causes.{Rose}
 use Rattle.lara.specs.declared.outcome.Outcome.TheVariants.{Script, Range}
 use Rattle.lara.specs.Words.{command_of}
 use Rattle.lara.proofs.Ends.{tells_exactly, tells_text, tells_source, complete}
+use Rattle.lara.proofs.RunLaws.{run_tells}
 use Rattle.lara.proofs.top.lara.Goals as goal
 
 pub returns-then-ne-clause-other_front : goal.returns-then-ne-clause-other_front
@@ -45,3 +46,11 @@ returns-else-ne-clause-script g c = λ at kind bytes told. tells_exactly _ _ _ _
 
 pub returns-else-ne-clause-range : goal.returns-else-ne-clause-range
 returns-else-ne-clause-range g c = λ statement bytes told. tells_exactly _ _ _ _ _ (c.run-outcome.ensures.tells bytes told) (Range statement) tt
+
+pub returns-then-ne-clause-relations : goal.returns-then-ne-clause-relations
+returns-then-ne-clause-relations g c = λ is_run bytes told.
+    run_tells _ c.args.words.now bytes _ c.run-outcome.result _ _ is_run (c.run-outcome.ensures.tells bytes told) (rw is_run at c.run-outcome.ensures.can) (c.run-outcome.ensures.answered bytes told)
+
+pub returns-else-ne-clause-relations : goal.returns-else-ne-clause-relations
+returns-else-ne-clause-relations g c = λ is_run bytes told.
+    run_tells _ c.args.words.now bytes _ c.run-outcome.result _ _ is_run (c.run-outcome.ensures.tells bytes told) (rw is_run at c.run-outcome.ensures.can) (c.run-outcome.ensures.answered bytes told)
