@@ -4,6 +4,7 @@ pub mod Ends
 pub mod Limits
 pub mod NoTables
 pub mod PrintFacts
+pub mod RangeFacts
 pub mod Reaching
 pub mod RunLaws
 pub mod Scripts

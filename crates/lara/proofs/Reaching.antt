@@ -15,9 +15,9 @@ use Rattle.lara.specs.Stops.{Stop, stop, at_input, at_syntax, at_types, at_range
 use Rattle.lara.specs.Endings.{Reaches, Stopped, Gives, no_fault, source_shows, shows, no_file}
 use Rattle.lara.specs.Commands.{within, ReadsInput}
 use Rattle.lara.specs.ScriptBytes.{tree_of, at_step}
-use Rattle.lara.specs.Prints.{first_over, texts}
+use Rattle.lara.specs.Ranges.{past_range}
 use Rattle.lara.specs.Words.{command_of}
-use Rattle.lara.specs.Ruling.{Answer, printed, ranged, in_range, prints_text, statements_of, script_ruling, command_ruling, ruling, call_shows}
+use Rattle.lara.specs.Ruling.{Answer, printed, by_range, answer_of, statements_of, script_ruling, command_ruling, ruling, call_shows}
 use Rattle.lara.proofs.Chains.{MetBy, reaches_then, earlier, stopped_then, refused_then, gives_then, stopped_more}
 use Rattle.lara.proofs.Ends.{call_shows_more}
 
@@ -25,13 +25,9 @@ at_step-reaches : {A : Type 0} (j k : ℕ) (r : Result A Refusal) → j ≤ k �
 at_step-reaches j k (Ok x) h = tt
 at_step-reaches j k (Err e) h = h
 
-ranged-reaches : (prints : List Printed) (o : Option ℕ) → Reaches at_syntax (ranged prints o)
-ranged-reaches prints None = tt
-ranged-reaches prints (Some n) = omega arith
-
-prints_text-reaches : (prints : List Printed) → Reaches at_syntax (prints_text prints)
-unfolding prints_text
-prints_text-reaches prints = reaches_then (in_range prints) (λ ranged. Ok (texts ranged)) at_syntax at_syntax (omega arith) (ranged-reaches prints (first_over prints)) (λ ranged. tt)
+by_range-reaches : (prints : List Printed) (past : Option ℕ) → Reaches at_syntax (by_range prints past)
+by_range-reaches prints None = tt
+by_range-reaches prints (Some n) = omega arith
 
 statements_of-reaches : (bytes : List ℕ) → Reaches at_syntax (statements_of bytes)
 statements_of-reaches bytes =
@@ -41,8 +37,7 @@ statements_of-reaches bytes =
 script_ruling-reaches : (ps : Plugins) (bytes : List ℕ) → Reaches at_syntax (script_ruling ps bytes)
 unfolding script_ruling
 script_ruling-reaches ps bytes =
-    reaches_then (statements_of bytes) (λ statements. prints_text (denotation ps [] statements).prints >>= λ text. Ok (printed text)) at_syntax at_syntax (omega arith) (statements_of-reaches bytes) (λ statements.
-    reaches_then (prints_text (denotation ps [] statements).prints) (λ text. Ok (printed text)) at_syntax at_syntax (omega arith) (prints_text-reaches (denotation ps [] statements).prints) (λ text. tt))
+    reaches_then (statements_of bytes) (λ statements. answer_of (denotation ps [] statements)) at_syntax at_syntax (omega arith) (statements_of-reaches bytes) (λ statements. by_range-reaches (denotation ps [] statements).prints (past_range (denotation ps [] statements)))
 
 -- the source is met by the step of the syntax
 source_met : (s : Type 0) → MetBy (source_shows s) at_syntax

@@ -29,8 +29,9 @@ use Rattle.lara.specs.Endings.{StopsWith, Allows, Excused}
 use Rattle.lara.specs.Commands.{script_limit, within, CanCome}
 use Rattle.lara.specs.Words.{command_of}
 use Rattle.lara.specs.ScriptBytes.{tree_of, at_step}
-use Rattle.lara.specs.Prints.{first_over, texts}
-use Rattle.lara.specs.Ruling.{Answer, printed, ranged, in_range, prints_text, statements_of, script_ruling, command_ruling, ruling, Tells}
+use Rattle.lara.specs.Prints.{texts}
+use Rattle.lara.specs.Ranges.{past_range}
+use Rattle.lara.specs.Ruling.{Answer, printed, by_range, answer_of, statements_of, script_ruling, command_ruling, ruling, Tells}
 use Rattle.lara.specs.RunRelations.{IsScript, ScriptRefused, too_many, by_syntax, by_types, Disturbed, RunTells}
 use Rattle.lara.proofs.Ends.{tells_exactly, tells_text}
 
@@ -48,21 +49,16 @@ is_short bytes e = grind (arith, nat_tests)
 long_is : (bytes : List ℕ) → nat_lt script_limit (length bytes) ≡ true → script_limit < length bytes
 long_is bytes e = grind (arith, nat_tests)
 
--- what a typed script answers: the texts of its prints, or the first that is out of range
-abbrev answer_of : List Printed → Option ℕ → Result Answer Stop
-answer_of prints over = (ranged prints over >>= λ xs. Ok (texts xs)) >>= λ text. Ok (printed text)
-
 -- what the types of a tree answer
 abbrev typed_answer : Plugins → Result (List Statement) Refusal → Result Answer Stop
-typed_answer ps types = at_step at_types types >>= λ ss. prints_text (denotation ps [] ss).prints >>= λ text. Ok (printed text)
+typed_answer ps types = at_step at_types types >>= λ ss. answer_of (denotation ps [] ss)
 
 module _ (ps : Plugins) (bytes : List ℕ) where
   script_is : (tree : Ast) → parsed bytes ≡ Ok tree → script_ruling ps bytes ≡ typed_answer ps (checked [] tree)
   unfolding script_ruling
   script_is tree e = rw e refl
 
-  typed_is : (ss : List Statement) → typed_answer ps (Ok ss) ≡ answer_of (denotation ps [] ss).prints (first_over (denotation ps [] ss).prints)
-  unfolding prints_text
+  typed_is : (ss : List Statement) → typed_answer ps (Ok ss) ≡ answer_of (denotation ps [] ss)
   typed_is ss = refl
 
   module _ (words : List (List ℕ)) (run : command_of words ≡ Ok Run) where
@@ -75,13 +71,13 @@ module _ (ps : Plugins) (bytes : List ℕ) where
     ruling_long l = rw (run, is_long bytes l) refl
 
     -- a script is answered as its denotation says
-    pub script_ruled : (ss : List Statement) (over : Option ℕ) → IsScript bytes ss → first_over (denotation ps [] ss).prints ≡ over → ruling ps words bytes ≡ answer_of (denotation ps [] ss).prints over
+    pub script_ruled : (ss : List Statement) (over : Option ℕ) → IsScript bytes ss → past_range (denotation ps [] ss) ≡ over → ruling ps words bytes ≡ by_range (denotation ps [] ss).prints over
     script_ruled ss over s e =
         ruling_is s.short
         ∙ script_is s.tree (parsed-only bytes s.tree s.stands)
         ∙ ap (typed_answer ps) (has_checked [] s.tree ss s.typed)
         ∙ typed_is ss
-        ∙ ap (answer_of (denotation ps [] ss).prints) e
+        ∙ ap (by_range (denotation ps [] ss).prints) e
 
     -- bytes that are no script are refused so
     pub refused_ruled : (r : Refusal) → ScriptRefused bytes r → StopsWith (ruling ps words bytes) (Script r.at r.kind)
@@ -96,7 +92,7 @@ module _ (ps : Plugins) (bytes : List ℕ) where
     pub record Answered (r : Result Answer Stop) : Type 0 where
       pub ss : List Statement
       pub script : IsScript bytes ss
-      pub is : r ≡ answer_of (denotation ps [] ss).prints (first_over (denotation ps [] ss).prints)
+      pub is : r ≡ answer_of (denotation ps [] ss)
 
     -- a ruling over bytes that are none
     pub record Declined (r : Result Answer Stop) : Type 0 where
@@ -124,7 +120,7 @@ module _ (ps : Plugins) (bytes : List ℕ) where
 
 -- ---- what a run tells
 
-ok_in_range : (prints : List Printed) (over : Option ℕ) → IsOk (answer_of prints over) → over ≡ None
+ok_in_range : (prints : List Printed) (over : Option ℕ) → IsOk (by_range prints over) → over ≡ None
 ok_in_range prints None ok = refl
 ok_in_range prints (Some n) ok = cc
 
@@ -137,15 +133,15 @@ stop_not_ok (Ok x) o s ok = s
 stop_not_ok (Err e) o s ok = absurd cc
 
 -- an answer is no refusal of the script, and one of the range where a print is over
-no_script : (prints : List Printed) (over : Option ℕ) (at : ℕ) (kind : Kind) → Allows (answer_of prints over) (Script at kind) → ⊥
+no_script : (prints : List Printed) (over : Option ℕ) (at : ℕ) (kind : Kind) → Allows (by_range prints over) (Script at kind) → ⊥
 no_script prints None at kind a = a
 no_script prints (Some n) at kind a = absurd cc
 
-range_is : (prints : List Printed) (over : Option ℕ) (n : ℕ) → Allows (answer_of prints over) (Range n) → over ≡ Some n
+range_is : (prints : List Printed) (over : Option ℕ) (n : ℕ) → Allows (by_range prints over) (Range n) → over ≡ Some n
 range_is prints None n a = absurd a
 range_is prints (Some m) n a = let e : m ≡ n = cc in ap (λ (k : ℕ). Some k) e
 
-range_stops : (prints : List Printed) (n : ℕ) → StopsWith (answer_of prints (Some n)) (Range n)
+range_stops : (prints : List Printed) (n : ℕ) → StopsWith (by_range prints (Some n)) (Range n)
 range_stops prints n = refl
 
 -- a refusal of the script is of no range, and of one place and kind
@@ -181,22 +177,23 @@ module _ (ps : Plugins) (words : List (List ℕ)) (bytes : List ℕ) (shown : Ca
   comes_or refusal (inr e) s can answered = inr (disturbed (ruling ps words bytes) refusal result s can answered e)
 
   module _ (run : command_of words ≡ Ok Run) (t : Tells shown (ruling ps words bytes) result old new) (can : CanCome (Ok Run) result) (answered : (result ≡ Done) ⊎ (result ≡ SinkFault) → IsOk (ruling ps words bytes)) where
-    done_by : Answered ps bytes words run (ruling ps words bytes) ⊎ Declined ps bytes words run (ruling ps words bytes) → result ≡ Done → (ss : List Statement) × IsScript bytes ss × (first_over (denotation ps [] ss).prints ≡ None)
-    done_by (inl a) same = (a.ss, a.script, ok_in_range (denotation ps [] a.ss).prints (first_over (denotation ps [] a.ss).prints) (subst (λ (r : Result Answer Stop). IsOk r) a.is (answered (inl same))))
+    done_by : Answered ps bytes words run (ruling ps words bytes) ⊎ Declined ps bytes words run (ruling ps words bytes) → result ≡ Done → (ss : List Statement) × IsScript bytes ss × (past_range (denotation ps [] ss) ≡ None)
+    done_by (inl a) same = (a.ss, a.script, ok_in_range (denotation ps [] a.ss).prints (past_range (denotation ps [] a.ss)) (subst (λ (r : Result Answer Stop). IsOk r) a.is (answered (inl same))))
     done_by (inr d) same = absurd (not_ok (ruling ps words bytes) d.step (Script d.refusal.at d.refusal.kind) d.is (answered (inl same)))
 
     text_by : (ss : List Statement) → IsScript bytes ss → result ≡ Done → Adds old new (texts (denotation ps [] ss).prints)
     text_by ss s same =
         let prints = (denotation ps [] ss).prints in
-        let in_range : first_over prints ≡ None = ok_in_range prints (first_over prints) (subst (λ (r : Result Answer Stop). IsOk r) (script_ruled ps bytes words run ss (first_over prints) s refl) (answered (inl same))) in
+        let past = past_range (denotation ps [] ss) in
+        let in_range : past ≡ None = ok_in_range prints past (subst (λ (r : Result Answer Stop). IsOk r) (script_ruled ps bytes words run ss past s refl) (answered (inl same))) in
         tells_text shown (ruling ps words bytes) result old new t (printed (texts prints)) same (script_ruled ps bytes words run ss None s in_range)
 
     script_by : Answered ps bytes words run (ruling ps words bytes) ⊎ Declined ps bytes words run (ruling ps words bytes) → (r : Refusal) → Allows (ruling ps words bytes) (Script r.at r.kind) → ScriptRefused bytes r
-    script_by (inl a) r allowed = absurd (no_script (denotation ps [] a.ss).prints (first_over (denotation ps [] a.ss).prints) r.at r.kind (subst (λ (q : Result Answer Stop). Allows q (Script r.at r.kind)) a.is allowed))
+    script_by (inl a) r allowed = absurd (no_script (denotation ps [] a.ss).prints (past_range (denotation ps [] a.ss)) r.at r.kind (subst (λ (q : Result Answer Stop). Allows q (Script r.at r.kind)) a.is allowed))
     script_by (inr d) r allowed = subst (λ (q : Refusal). ScriptRefused bytes q) (same_refusal d.step d.refusal r (subst (λ (q : Result Answer Stop). Allows q (Script r.at r.kind)) d.is allowed)) d.refused
 
-    range_by : Answered ps bytes words run (ruling ps words bytes) ⊎ Declined ps bytes words run (ruling ps words bytes) → (n : ℕ) → Allows (ruling ps words bytes) (Range n) → (ss : List Statement) × IsScript bytes ss × (first_over (denotation ps [] ss).prints ≡ Some n)
-    range_by (inl a) n allowed = (a.ss, a.script, range_is (denotation ps [] a.ss).prints (first_over (denotation ps [] a.ss).prints) n (subst (λ (q : Result Answer Stop). Allows q (Range n)) a.is allowed))
+    range_by : Answered ps bytes words run (ruling ps words bytes) ⊎ Declined ps bytes words run (ruling ps words bytes) → (n : ℕ) → Allows (ruling ps words bytes) (Range n) → (ss : List Statement) × IsScript bytes ss × (past_range (denotation ps [] ss) ≡ Some n)
+    range_by (inl a) n allowed = (a.ss, a.script, range_is (denotation ps [] a.ss).prints (past_range (denotation ps [] a.ss)) n (subst (λ (q : Result Answer Stop). Allows q (Range n)) a.is allowed))
     range_by (inr d) n allowed = absurd (no_range d.step d.refusal n (subst (λ (q : Result Answer Stop). Allows q (Range n)) d.is allowed))
 
     pub run_tells : RunTells ps bytes result old new

@@ -4,6 +4,7 @@ pub mod Invocations
 pub mod Lines
 pub mod OutcomeTable
 pub mod Prints
+pub mod Ranges
 pub mod Ruling
 pub mod RunRelations
 pub mod ScriptBytes

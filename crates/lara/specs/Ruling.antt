@@ -3,7 +3,7 @@
 use Rattle.std.specs.Prelude.{◌≡◌, ℕ, List, [], Option, Some, None, Result, Ok, Err}
 use Rattle.lara_base.specs.Moves.{Adds, AddsFront}
 use Rattle.lara_data.specs.declared.script.Statement.{Statement}
-use Rattle.lara_data.specs.Denotations.{Database, Printed, denotation}
+use Rattle.lara_data.specs.Denotations.{Database, Printed, Answers, denotation}
 use Rattle.lara_data.specs.Plugins.{Plugins}
 use Rattle.lara_types.specs.Checks.{checked}
 use Rattle.lara_base.specs.Results.{◌>>=◌}
@@ -18,6 +18,7 @@ use Rattle.lara.specs.Commands.{within, ReadsInput}
 use Rattle.lara.specs.Words.{command_of}
 use Rattle.lara.specs.ScriptBytes.{tree_of, at_step}
 use Rattle.lara.specs.Prints.{first_over, texts}
+use Rattle.lara.specs.Ranges.{past_range}
 
 -- what is written, and the database that is stored; none where the command stores nothing, as none does yet
 pub record Answer : Type 0 where
@@ -51,12 +52,20 @@ statements_of bytes = do
   tree ← tree_of bytes
   at_step at_types (checked [] tree)
 
--- the ruling on the bytes of a script: the text of what its typed script prints over no stored tables
+-- the texts of the prints, or the stop at this statement, which prints or stores what is past its range
+abbrev pub by_range : List Printed → Option ℕ → Result Answer Stop
+by_range prints None = Ok (printed (texts prints))
+by_range prints (Some statement) = stop at_range (Range statement)
+
+-- the answer to what a script prints and stores
+abbrev pub answer_of : Answers → Result Answer Stop
+answer_of d = by_range d.prints (past_range d)
+
+-- the ruling on the bytes of a script: the answer to what its typed script prints and stores over no stored tables
 unfoldable pub script_ruling : Plugins → List ℕ → Result Answer Stop
 script_ruling ps bytes = do
   statements ← statements_of bytes
-  text ← prints_text (denotation ps [] statements).prints
-  Ok (printed text)
+  answer_of (denotation ps [] statements)
 
 -- ---- calls
 

@@ -16,7 +16,8 @@ use Rattle.lara_types.specs.Refused.{Refused}
 use Rattle.lara.specs.declared.outcome.Outcome.{Outcome}
 use Rattle.lara.specs.declared.outcome.Outcome.TheVariants.{Done, Script, Range, SourceFault, Memory}
 use Rattle.lara.specs.Commands.{script_limit}
-use Rattle.lara.specs.Prints.{first_over, texts}
+use Rattle.lara.specs.Prints.{texts}
+use Rattle.lara.specs.Ranges.{past_range}
 
 -- The bytes are a script of these statements: within the limit, a tree stands to them in the grammar, and it has these types
 -- over no stored tables.
@@ -39,12 +40,12 @@ Disturbed outcome = (outcome ≡ SourceFault) ⊎ (outcome ≡ Memory)
 -- All that is said of a run over these bytes, where what the output held became something new.
 pub record RunTells (ps : Plugins) (bytes : List ℕ) (result : Outcome) (old new : Option (List ℕ)) : Type 0 where
   -- done only where the bytes are a script whose tables are in range
-  pub done_only : result ≡ Done → (ss : List Statement) × IsScript bytes ss × (first_over (denotation ps [] ss).prints ≡ None)
+  pub done_only : result ≡ Done → (ss : List Statement) × IsScript bytes ss × (past_range (denotation ps [] ss) ≡ None)
   -- then the texts of what it prints were added, and nothing else
   pub done_text : (ss : List Statement) → IsScript bytes ss → result ≡ Done → Adds old new (texts (denotation ps [] ss).prints)
   -- a refusal of the script comes only where the relations say so, and there
   pub script_only : (r : Refusal) → result ≡ Script r.at r.kind → ScriptRefused bytes r
   pub script_comes : (r : Refusal) → ScriptRefused bytes r → (result ≡ Script r.at r.kind) ⊎ Disturbed result
-  -- so does the number of the first statement that is out of range
-  pub range_only : (statement : ℕ) → result ≡ Range statement → (ss : List Statement) × IsScript bytes ss × (first_over (denotation ps [] ss).prints ≡ Some statement)
-  pub range_comes : (ss : List Statement) (statement : ℕ) → IsScript bytes ss → first_over (denotation ps [] ss).prints ≡ Some statement → (result ≡ Range statement) ⊎ Disturbed result
+  -- so does the number of the first statement that prints or stores a table that is out of range
+  pub range_only : (statement : ℕ) → result ≡ Range statement → (ss : List Statement) × IsScript bytes ss × (past_range (denotation ps [] ss) ≡ Some statement)
+  pub range_comes : (ss : List Statement) (statement : ℕ) → IsScript bytes ss → past_range (denotation ps [] ss) ≡ Some statement → (result ≡ Range statement) ⊎ Disturbed result

@@ -1,5 +1,5 @@
 //! The answer to a script: its tree, its types, what it prints, its text, or the first refusal.
-ghost use Rattle.std.specs.Prelude.{◌≡◌, ◌≤◌, ◌<◌, ◌^◌, [], length, IfOk, IfErr};
+ghost use Rattle.std.specs.Prelude.{◌≡◌, ◌≤◌, ◌<◌, ◌^◌, [], length, Some, IfOk, IfErr};
 ghost use Rattle.lara_data.specs.Plugins.{handed};
 ghost use Rattle.lara_data.specs.Fits.{ScriptFits};
 ghost use Rattle.lara_data.specs.Denotations.{denotation};
@@ -7,13 +7,15 @@ ghost use Rattle.lara_types.specs.Checks.{checked};
 ghost use Rattle.lara.specs.Stops.{at_types};
 ghost use Rattle.lara.specs.ScriptBytes.{tree_of, at_step, outcome_of_fault};
 ghost use Rattle.lara.specs.Commands.{script_limit};
-ghost use Rattle.lara.specs.Ruling.{printed, prints_text, statements_of, script_ruling};
+ghost use Rattle.lara.specs.Ranges.{lesser};
+ghost use Rattle.lara.specs.Ruling.{printed, answer_of, statements_of, script_ruling};
 ghost use Rattle.lara_syntax.specs.Limits.{most};
 ghost use Rattle.lara.specs.Endings.{Gives, StopsScript, no_fault};
 ghost use Rattle.lara.specs.declared.outcome.Outcome.TheVariants.{Memory};
 
 use crate::outcome::Outcome;
 use crate::prints::prints_text;
+use crate::ranges::{print_past, store_past};
 use lara_assoc::{Answers, eval};
 use lara_base::{Bytes, List};
 use lara_data::{Plugin, ReadFault, Script};
@@ -84,12 +86,28 @@ fn plain_answers(
     Ok(eval(alloc, script, &List::new(alloc), plugins)?)
 }
 
-// The text of what was printed.
-fn printed_text(alloc: Global, answers: &Answers) -> Result<Bytes, Outcome>
-    ensures gives { Gives (λ text. text) no_fault (prints_text answers.now.prints) result }
+// The lesser of two statements, of which one may be none.
+fn lesser(print: Option<u32>, store: u32) -> u32
+    ensures { Some result ≡ lesser print (Some store) }
+{
+    match print {
+        Some(print) => print.min(store),
+        None => store,
+    }
+}
+
+// The text of what was printed, where all that was printed and stored is in range.
+#[tactic(auto, using(crate::proofs::Scripts::prints_decide, crate::proofs::Scripts::store_decides))]
+fn text_in_range(alloc: Global, answers: &Answers) -> Result<Bytes, Outcome>
+    ensures gives { Gives printed no_fault (answer_of answers.now) result }
     ensures stops { IfErr result StopsScript }
 {
-    prints_text(alloc, &answers.prints)
+    match store_past(&answers.stores) {
+        None => prints_text(alloc, &answers.prints),
+        Some(store) => Err(Outcome::Range {
+            statement: lesser(print_past(&answers.prints), store),
+        }),
+    }
 }
 
 /// The text of what a script prints.
@@ -104,5 +122,5 @@ pub fn answer(
 {
     let script = read_statements(alloc, script, plugins)?;
     let answers = plain_answers(alloc, &script, plugins)?;
-    printed_text(alloc, &answers)
+    text_in_range(alloc, &answers)
 }

@@ -13,6 +13,7 @@ mod line;
 mod outcome;
 mod output;
 mod prints;
+mod ranges;
 mod report;
 mod table_text;
 mod top;

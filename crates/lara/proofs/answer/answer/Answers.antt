@@ -1,6 +1,6 @@
 use Rattle.std.specs.Prelude.{List}
 use Rattle.std.proofs.lemmas.Result.{err_from_is_err_and}
-use Rattle.lara.proofs.Scripts.{reading_stopped, prints_give}
+use Rattle.lara.proofs.Scripts.{reading_stopped, answers_give}
 use Rattle.lara.proofs.answer.answer.Goals as goal
 
 pub returns-in_err-script-clause-gives : goal.returns-in_err-script-clause-gives
@@ -9,4 +9,4 @@ returns-in_err-script-clause-gives g c =
     rw (p.1, p.2) (reading_stopped c.args.script.now _ _ c.in_err-script.ensures.gives)
 
 pub returns-clause-gives : goal.returns-clause-gives
-returns-clause-gives g c = prints_give c.args.script.now _ _ c.printed_text.result c.in_ok-script.ensures.gives (rw c.in_ok-answers.ensures.means at c.printed_text.ensures.gives)
+returns-clause-gives g c = answers_give c.args.script.now _ _ c.text_in_range.result c.in_ok-script.ensures.gives (rw c.in_ok-answers.ensures.means at c.text_in_range.ensures.gives)
