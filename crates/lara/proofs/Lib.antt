@@ -1,7 +1,13 @@
 pub mod ArgumentFacts
 pub mod Chains
+pub mod Ends
 pub mod Limits
 pub mod NoTables
 pub mod PrintFacts
+pub mod RangeFacts
 pub mod Reaching
+pub mod RunLaws
+pub mod Scripts
 pub mod TextFacts
+pub mod WorkedEndings
+pub mod WorkedLines

@@ -7,7 +7,7 @@ use Rattle.std.proofs.lemmas.List.{append-nil, take-append-drop, take_all, take_
 use Rattle.lara_data.specs.Denotations.{Printed}
 use Rattle.lara_data.specs.Tables.{is_in_range}
 use Rattle.lara.specs.declared.outcome.Outcome.TheVariants.{Range}
-use Rattle.lara.specs.Endings.{StopsWith}
+use Rattle.lara.specs.Endings.{Allows}
 use Rattle.lara.specs.Prints.{first_over, print_text, texts}
 use Rattle.lara.specs.Ruling.{prints_text}
 
@@ -60,7 +60,7 @@ module _ (ps : List Printed) (i : ℕ) (p : Printed) (within : i < length ps) (h
   over_more so_far ranged = rw (more, first_over-append (take i ps) (p ∷ []) so_far, first_over-one, ranged) refl
 
   -- the first that is out of range stops the script
-  pub over_stops : first_over (take i ps) ≡ None → is_in_range p.table ≡ false → StopsWith (prints_text ps) (Range p.statement)
+  pub over_stops : first_over (take i ps) ≡ None → is_in_range p.table ≡ false → Allows (prints_text ps) (Range p.statement)
   unfolding prints_text
   over_stops so_far over =
       let front : first_over (take (i + 1) ps) ≡ Some p.statement = rw (more, first_over-append (take i ps) (p ∷ []) so_far, first_over-one, over) refl in

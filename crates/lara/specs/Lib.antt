@@ -1,8 +1,12 @@
+pub mod Commands
 pub mod Endings
 pub mod Invocations
 pub mod Lines
+pub mod OutcomeTable
 pub mod Prints
+pub mod Ranges
 pub mod Ruling
+pub mod RunRelations
 pub mod ScriptBytes
 pub mod Statuses
 pub mod Stops

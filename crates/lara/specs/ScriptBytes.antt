@@ -1,23 +1,14 @@
 -- The bytes of a script, up to its tree.
-use Rattle.std.specs.Prelude.{ℕ, List, length, Result, Ok, Err, nat_lt, if◌then◌else◌}
+use Rattle.std.specs.Prelude.{ℕ, List, Result, Ok, Err}
 use Rattle.lara_syntax.specs.declared.ast.Ast.{Ast}
 use Rattle.lara_data.specs.declared.refusal.Refusal.{Refusal}
-use Rattle.lara_data.specs.declared.refusal.Kind.TheVariants.{TooLong}
 use Rattle.lara_syntax.specs.Parsed.{parsed}
 use Rattle.lara.specs.declared.outcome.Outcome.TheVariants.{Script, Memory}
 use Rattle.lara.specs.declared.outcome.Outcome.{Outcome}
 use Rattle.lara_data.specs.declared.refusal.ReadFault.{ReadFault}
 use Rattle.lara_data.specs.declared.refusal.ReadFault.TheVariants.{Refused}
 use Rattle.lara_data.specs.declared.refusal.ReadFault.TheVariants as faults
-use Rattle.lara.specs.Stops.{Stop, stop, at_input, at_syntax}
-
--- the most bytes that a script may have
-abbrev pub limit : ℕ
-limit = 1048576
-
--- the bytes, where they are within the limit
-abbrev pub within : List ℕ → Result (List ℕ) Stop
-within input = if nat_lt limit (length input) then stop at_input (Script limit TooLong) else Ok input
+use Rattle.lara.specs.Stops.{Stop, stop, at_syntax}
 
 -- what was judged at a step, with a refusal as the script's
 abbrev pub at_step : {A : Type 0} → ℕ → Result A Refusal → Result A Stop

@@ -22,12 +22,3 @@ command_of [] = stop at_words (Usage 0)
 command_of (word ∷ words) = do
   command ← command_named word
   alone words command
-
--- whether a command has input
-abbrev pub HasInput : Command → Type 0
-HasInput Run = Unit {0}
-
--- whether a call reads its input
-abbrev pub ReadsInput : Result Command Stop → Type 0
-ReadsInput (Ok command) = HasInput command
-ReadsInput (Err e) = ⊥

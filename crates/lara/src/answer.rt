@@ -1,17 +1,21 @@
 //! The answer to a script: its tree, its types, what it prints, its text, or the first refusal.
-ghost use Rattle.std.specs.Prelude.{◌≡◌, ◌≤◌, ◌<◌, ◌^◌, [], length, IfOk, IfErr};
+ghost use Rattle.std.specs.Prelude.{◌≡◌, ◌≤◌, ◌<◌, ◌^◌, [], length, Some, IfOk, IfErr};
 ghost use Rattle.lara_data.specs.Plugins.{handed};
 ghost use Rattle.lara_data.specs.Fits.{ScriptFits};
 ghost use Rattle.lara_data.specs.Denotations.{denotation};
 ghost use Rattle.lara_types.specs.Checks.{checked};
 ghost use Rattle.lara.specs.Stops.{at_types};
 ghost use Rattle.lara.specs.ScriptBytes.{tree_of, at_step, outcome_of_fault};
-ghost use Rattle.lara.specs.Ruling.{statements_of, script_ruling};
+ghost use Rattle.lara.specs.Commands.{script_limit};
+ghost use Rattle.lara.specs.Ranges.{lesser};
+ghost use Rattle.lara.specs.Ruling.{printed, answer_of, statements_of, script_ruling};
+ghost use Rattle.lara_syntax.specs.Limits.{most};
 ghost use Rattle.lara.specs.Endings.{Gives, StopsScript, no_fault};
 ghost use Rattle.lara.specs.declared.outcome.Outcome.TheVariants.{Memory};
 
 use crate::outcome::Outcome;
 use crate::prints::prints_text;
+use crate::ranges::{print_past, store_past};
 use lara_assoc::{Answers, eval};
 use lara_base::{Bytes, List};
 use lara_data::{Plugin, ReadFault, Script};
@@ -34,9 +38,9 @@ fn unread(fault: ReadFault) -> Outcome
 
 // The tree of a script.
 fn read_tree(alloc: Global, script: &[u8]) -> Result<Ast, Outcome>
-    requires { length script.now ≤ 1048576 }
+    requires { length script.now ≤ script_limit }
     ensures gives { Gives (λ tree. tree) no_fault (tree_of script.now) result }
-    ensures few { IfOk result (λ tree. length tree.statements ≤ 256) }
+    ensures few { IfOk result (λ tree. length tree.statements ≤ most.statements) }
     ensures stops { IfErr result StopsScript }
 {
     parse(alloc, script).map_err(unread)
@@ -58,9 +62,9 @@ fn read_statements(
     script: &[u8],
     plugins: &Vec<Box<dyn Plugin>>,
 ) -> Result<Script, Outcome>
-    requires { length script.now ≤ 1048576 }
+    requires { length script.now ≤ script_limit }
     ensures gives { Gives (λ statements. statements) no_fault (statements_of (handed ⟦<dyn Plugin as Plugin>⟧ plugins.now.items) script.now) result }
-    ensures few { IfOk result (λ statements. length statements ≤ 256) }
+    ensures few { IfOk result (λ statements. length statements ≤ most.statements) }
     ensures fits { IfOk result (ScriptFits (handed ⟦<dyn Plugin as Plugin>⟧ plugins.now.items) []) }
     ensures stops { IfErr result StopsScript }
 {
@@ -82,18 +86,41 @@ fn plain_answers(
     Ok(eval(alloc, script, &List::new(alloc), plugins)?)
 }
 
+// The lesser of two statements, of which one may be none.
+fn lesser(print: Option<u32>, store: u32) -> u32
+    ensures { Some result ≡ lesser print (Some store) }
+{
+    match print {
+        Some(print) => print.min(store),
+        None => store,
+    }
+}
+
+// The text of what was printed, where all that was printed and stored is in range.
+#[tactic(auto, using(crate::proofs::Scripts::prints_decide, crate::proofs::Scripts::store_decides))]
+fn text_in_range(alloc: Global, answers: &Answers) -> Result<Bytes, Outcome>
+    ensures gives { Gives printed no_fault (answer_of answers.now) result }
+    ensures stops { IfErr result StopsScript }
+{
+    match store_past(&answers.stores) {
+        None => prints_text(alloc, &answers.prints),
+        Some(store) => Err(Outcome::Range {
+            statement: lesser(print_past(&answers.prints), store),
+        }),
+    }
+}
+
 /// The text of what a script prints.
-#[tactic(auto, unfolding(crate::specs::Ruling::script_ruling))]
 pub fn answer(
     alloc: Global,
     script: &[u8],
     plugins: &Vec<Box<dyn Plugin>>,
 ) -> Result<Bytes, Outcome>
-    requires { length script.now ≤ 1048576 }
-    ensures gives { Gives (λ text. text) no_fault (script_ruling (handed ⟦<dyn Plugin as Plugin>⟧ plugins.now.items) script.now) result }
+    requires { length script.now ≤ script_limit }
+    ensures gives { Gives printed no_fault (script_ruling (handed ⟦<dyn Plugin as Plugin>⟧ plugins.now.items) script.now) result }
     ensures stops { IfErr result StopsScript }
 {
     let script = read_statements(alloc, script, plugins)?;
     let answers = plain_answers(alloc, &script, plugins)?;
-    prints_text(alloc, &answers.prints)
+    text_in_range(alloc, &answers)
 }

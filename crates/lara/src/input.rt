@@ -1,10 +1,11 @@
 //! The script, read to its end.
-ghost use Rattle.std.specs.Prelude.{◌≡◌, ◌≤◌, ◌<◌, ◌+◌, ◌^◌, ℕ, List, length, take, Some, IfOk, IfErr, OnOk, OnErr, IsErrOf};
+ghost use Rattle.std.specs.Prelude.{◌≡◌, ◌≤◌, ◌<◌, ◌+◌, ◌^◌, ℕ, List, length, take, Some, Ok, IfOk, IfErr, OnOk, OnErr, IsErrOf};
 ghost use Rattle.std.specs.Io.KnownBytes.{IsAtEnd};
 ghost use Rattle.lara_base.specs.Causes.{HasCause, Rose};
 ghost use Rattle.lara_base.specs.Moves.{Takes, ReadsWithin};
-ghost use Rattle.lara.specs.ScriptBytes.{within};
-ghost use Rattle.lara.specs.Endings.{Gives, Caused, CanCome, IsUsage, causes};
+ghost use Rattle.lara.specs.Commands.{Told, CanCome, most_read, script_limit, within};
+ghost use Rattle.lara.specs.Endings.{Gives, Caused, source_shows};
+ghost use Rattle.lara.specs.declared.words.Command.TheVariants.{Run};
 ghost use Rattle.lara.specs.declared.input.InputFault.TheVariants.{Memory};
 
 use crate::outcome::Outcome;
@@ -59,15 +60,14 @@ fn read_within<S: Source>(alloc: Global, input: &mut S, limit: u32) -> Result<By
     Ok(bytes)
 }
 
-/// The script: the whole input, which is refused past 1,048,576 bytes. Reading stops one byte past the limit.
-pub fn read_script<S: Source>(alloc: Global, input: &mut S) -> Result<Bytes, Outcome>
-    ensures gives { (bytes : List ℕ) → S.left input.old ≡ Some bytes → Gives (λ v. v) (causes ⊥ (Rose (S.faults input.old) (S.faults input.new)) ⊥) (within bytes) result }
-    ensures most { ReadsWithin (S.left input.old) (S.left input.new) 1048577 }
-    ensures short { IfOk result (λ v. length v ≤ 1048576) }
+/// The bytes of a script: the whole input, which is refused past 1,048,576 bytes. Reading stops one byte past the limit.
+pub fn script_bytes<S: Source>(alloc: Global, input: &mut S) -> Result<Bytes, Outcome>
+    ensures gives { Told (Unit {0}) (S.left input.old) (λ bytes. Gives (λ v. v) (source_shows (Rose (S.faults input.old) (S.faults input.new))) (within Run bytes) result) }
+    ensures most { ReadsWithin (S.left input.old) (S.left input.new) (most_read (Ok Run)) }
+    ensures short { IfOk result (λ v. length v ≤ script_limit) }
     ensures end { OnOk result (IsAtEnd (S.left input.new)) }
-    ensures cause { IfErr result (Caused (causes ⊥ (Rose (S.faults input.old) (S.faults input.new)) ⊥)) }
-    ensures can { IfErr result CanCome }
-    ensures words { IfErr result (λ outcome. ¬ (IsUsage outcome)) }
+    ensures cause { IfErr result (Caused (source_shows (Rose (S.faults input.old) (S.faults input.new)))) }
+    ensures can { IfErr result (CanCome (Ok Run)) }
     ensures later { S.faults input.old ≤ S.faults input.new }
 {
     match read_within(alloc, input, LIMIT) {

@@ -13,6 +13,7 @@ mod line;
 mod outcome;
 mod output;
 mod prints;
+mod ranges;
 mod report;
 mod table_text;
 mod top;
@@ -34,7 +35,7 @@ fn main(rt: HostRuntime) -> ExitCode {
         &mut StdinSource::new(rt.stdin()),
         &mut StdoutSink::new(rt.stdout()),
         &mut StderrSink::new(rt.stderr()),
-        &Vec::new(alloc),
+        Ok(Vec::new(alloc)),
     );
     outcome.exit_code()
 }

@@ -1,5 +1,5 @@
 //! The words of the command line, from a list that tells them and from an environment made by hand, and a call whose words
-//! found no memory.
+//! or plugins found no memory.
 ghost use Rattle.std.specs.Prelude.{Some};
 
 use crate::arguments::arguments;
@@ -7,6 +7,7 @@ use crate::call::call;
 use crate::invocation::{Invocation, SystemInvocation};
 use crate::tests::{is_held, sink, source, words_of};
 use lara_base::{List, Word};
+use lara_data::Plugin;
 use std::alloc::{AllocError, Global};
 use std::env::{Env, FillError};
 use std::test::Fail;
@@ -68,25 +69,19 @@ fn arguments_are_words_in_their_order(rt: HostRuntime) -> Result<(), Fail> {
     Ok(())
 }
 
-// The exit status of a call with these words over this script, or none where something else stands on `out` or on `err`
+// The exit status of a call with these words and plugins over this script, or none where something else stands on `out` or on `err`
 // after it.
 fn call_status(
     alloc: Global,
     words: Result<List<Word>, AllocError>,
+    plugins: Result<Vec<Box<dyn Plugin>>, AllocError>,
     out_want: &[u8],
     err_want: &[u8],
 ) -> Result<Option<u8>, AllocError> {
     let mut input = source(alloc, b"T = table [: v: count] { :4 }; print T;", 9, 0)?;
     let mut out = sink(alloc, 9, 0)?;
     let mut err = sink(alloc, 9, 0)?;
-    let outcome = call(
-        alloc,
-        words,
-        &mut input,
-        &mut out,
-        &mut err,
-        &Vec::new(alloc),
-    );
+    let outcome = call(alloc, words, &mut input, &mut out, &mut err, plugins);
     if is_held(&out, out_want) && is_held(&err, err_want) {
         Ok(Some(outcome.status()))
     } else {
@@ -96,7 +91,24 @@ fn call_status(
 
 #[test]
 fn without_words_a_call_is_out_of_memory(rt: HostRuntime) -> Result<(), Fail> {
-    let status = call_status(rt.alloc(), Err(AllocError), b"", b"lara: out of memory\n")?;
+    let alloc = rt.alloc();
+    let plugins = Ok(Vec::new(alloc));
+    let status = call_status(
+        alloc,
+        Err(AllocError),
+        plugins,
+        b"",
+        b"lara: out of memory\n",
+    )?;
+    assert_eq!(rt; status, Some(11));
+    Ok(())
+}
+
+#[test]
+fn without_plugins_a_call_is_out_of_memory(rt: HostRuntime) -> Result<(), Fail> {
+    let alloc = rt.alloc();
+    let words = words_of(alloc, &[b"run"]);
+    let status = call_status(alloc, words, Err(AllocError), b"", b"lara: out of memory\n")?;
     assert_eq!(rt; status, Some(11));
     Ok(())
 }
@@ -105,7 +117,8 @@ fn without_words_a_call_is_out_of_memory(rt: HostRuntime) -> Result<(), Fail> {
 fn with_words_a_call_is_that_of_lara(rt: HostRuntime) -> Result<(), Fail> {
     let alloc = rt.alloc();
     let words = words_of(alloc, &[b"run"]);
-    let status = call_status(alloc, words, b"T[: v: count]\n:4\nend 1\n", b"")?;
+    let plugins = Ok(Vec::new(alloc));
+    let status = call_status(alloc, words, plugins, b"T[: v: count]\n:4\nend 1\n", b"")?;
     assert_eq!(rt; status, Some(0));
     Ok(())
 }

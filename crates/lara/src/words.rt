@@ -1,7 +1,7 @@
 //! The words of a call: which command they are.
 ghost use Rattle.std.specs.Prelude.{◌≡◌, IfErr};
 ghost use Rattle.lara.specs.Words.{command_of, command_named};
-ghost use Rattle.lara.specs.Endings.{Gives, IsUsage, no_fault};
+ghost use Rattle.lara.specs.Endings.{Gives, StopsWith, no_fault};
 
 use crate::outcome::Outcome;
 use lara_base::{List, Word};
@@ -16,7 +16,7 @@ pub enum Command {
 // The command of this name.
 fn command_named(word: &[u8]) -> Result<Command, Outcome>
     ensures gives { Gives (λ c. c) no_fault (command_named word.now) result }
-    ensures sure { IfErr result IsUsage }
+    ensures sure { IfErr result (StopsWith (command_named word.now)) }
 {
     if word == b"run".as_slice() {
         Ok(Command::Run)
@@ -25,10 +25,11 @@ fn command_named(word: &[u8]) -> Result<Command, Outcome>
     }
 }
 
-/// The command that the words are. This takes no memory, and has no other error than Usage.
+/// The command that the words are. This takes no memory, so it has no other error than the Usage of
+/// the rules.
 pub fn read_command(words: &List<Word>) -> Result<Command, Outcome>
     ensures gives { Gives (λ c. c) no_fault (command_of words.now) result }
-    ensures sure { IfErr result IsUsage }
+    ensures sure { IfErr result (StopsWith (command_of words.now)) }
 {
     match words.as_slice() {
         [] => Err(Outcome::Usage { at: 0 }),

@@ -2,7 +2,7 @@ use Rattle.std.proofs.Common.{sym, subst, ap, ◌∙◌, ◌++◌}
 use Rattle.lara_data.specs.Denotations.{Printed}
 use Rattle.lara_data.specs.Tables.{is_in_range}
 use Rattle.lara.specs.declared.outcome.Outcome.TheVariants.{Range}
-use Rattle.lara.specs.Endings.{StopsWith}
+use Rattle.lara.specs.Endings.{Allows}
 use Rattle.lara.specs.Prints.{print_text}
 use Rattle.lara.specs.Ruling.{prints_text}
 use Rattle.lara.proofs.PrintFacts.{no_prints, none_over, text_more, over_more, over_stops, all_printed}
@@ -17,7 +17,7 @@ returns-then-not-is_in_range-clause-gives c =
     let within = rw c.as_slice-print-items.ensures at c.loop-print-test.true in
     let here = rw c.as_slice-print-items.ensures at c.print-item.is in
     let over = ap (λ (p : Printed). is_in_range p.table) (sym c.print.view_is) ∙ sym c.if-not-is_in_range.ensures in
-    subst (λ (p : Printed). StopsWith (prints_text ps) (Range p.statement)) (sym c.print.view_is) (over_stops ps c.loop-print.print-index c.print-item.result within here c.loop-print.invariant.ranged over)
+    subst (λ (p : Printed). Allows (prints_text ps) (Range p.statement)) (sym c.print.view_is) (over_stops ps c.loop-print.print-index c.print-item.result within here c.loop-print.invariant.ranged over)
 
 pub loop-print-preserved : goal.loop-print-preserved
 loop-print-preserved c =
