@@ -1,12 +1,13 @@
 -- Texts that grow item by item.
-use Rattle.std.proofs.Common.{◌≡◌, ℕ, ◌<◌, ◌≤◌, ◌+◌, List, [], ◌∷◌, ◌++◌, length, take, refl, ap, sym, ◌∙◌, get_or, append_assoc, drop, ◌-◌, arith, true, false, cond, codes}
+use Rattle.std.proofs.Common.{◌≡◌, ℕ, ◌<◌, ◌≤◌, ◌+◌, List, [], ◌∷◌, ◌++◌, length, take, refl, ap, sym, ◌∙◌, get_or, append_assoc, drop, ◌-◌, arith, true, false, cond, codes, suc}
 use Rattle.std.specs.List.{flat_map}
 use Rattle.lara_data.specs.declared.table_type.KeyCol.{KeyCol}
 use Rattle.lara_data.specs.KeyedTables.{Row}
 use Rattle.lara_data.specs.MapTables.{of_pairs}
 use Rattle.lara_data.specs.Names.{same_name, Tuple}
-use Rattle.lara_data.specs.Tables.{Entry}
-use Rattle.lara.specs.TableTexts.{joined, key_column_text, named_text, key_columns_text}
+use Rattle.lara_data.specs.Algebra.{ordered}
+use Rattle.lara_data.specs.Tables.{Entry, Entries, Table}
+use Rattle.lara.specs.TableTexts.{joined, key_column_text, named_text, key_columns_text, head_text, cell_text, end_text, table_text}
 use Rattle.std.proofs.lemmas.List.{flat_map_more, take_more, take_all, at_drop_more, at_drop_all, append-nil}
 use Rattle.std.specs.Str.{bytes_eq}
 
@@ -23,6 +24,11 @@ lines_step f text new whole it next k r is after so_far =
 
 pub lines_end : (f : Entry → List ℕ) (text whole : List ℕ) (it : List (Tuple × Row)) → it ≡ [] → text ++ flat_map f (of_pairs it) ≡ whole → text ≡ whole
 lines_end f text whole it none so_far = sym (append-nil text) ∙ ap (λ (x : List (Tuple × Row)). text ++ flat_map f (of_pairs x)) (sym none) ∙ so_far
+
+-- there is a line for each key
+pub lines_count : (ps : List (Tuple × Row)) → length (of_pairs ps) ≡ length ps
+lines_count [] = refl
+lines_count (p ∷ ps) = ap suc (lines_count ps)
 
 -- a turn of a loop that adds to a text, with a text before each item
 pub joined_step : {X : Type 0} (between : List ℕ) (f : X → List ℕ) (start text mid new : List ℕ) (xs : List X) (i : ℕ) (x : X) → i < length xs → x ≡ get_or xs i x → text ≡ start ++ flat_map (λ y. between ++ f y) (take i xs) → mid ≡ text ++ between → new ≡ mid ++ f x → new ≡ start ++ flat_map (λ y. between ++ f y) (take (i + 1) xs)
@@ -69,3 +75,11 @@ some_key_columns old mid new keys [] some names space = absurd (some refl)
 some_key_columns old mid new keys (n ∷ ns) some names space = space ∙ ap (λ t. t ++ codes " ") names ∙ append_assoc old (joined (codes ", ") (named_text keys) (n ∷ ns)) (codes " ")
 
 pub ruleset key_column_facts = (no_key_columns, some_key_columns)
+
+-- the head, the lines and the end are the text of the table
+pub text_whole : (name : List ℕ) (order : List (List ℕ)) (t : Table) (old head lines : List ℕ) (cells : Entries) (n : ℕ) → head ≡ old ++ head_text name order t.ty → lines ≡ head ++ flat_map cell_text cells → cells ≡ ordered t order → n ≡ length cells → lines ++ end_text n ≡ old ++ table_text name order t
+unfolding table_text
+text_whole name order t old head lines cells n first body whole count =
+    (λ i. (body ∙ (λ j. first j ++ flat_map cell_text (whole j))) i ++ end_text ((count ∙ ap length whole) i))
+    ∙ ap (λ x. x ++ end_text (length (ordered t order))) (append_assoc old (head_text name order t.ty) (flat_map cell_text (ordered t order)))
+    ∙ append_assoc old (head_text name order t.ty ++ flat_map cell_text (ordered t order)) (end_text (length (ordered t order)))

@@ -118,7 +118,7 @@ fn add_cell(text: &mut Bytes, key: &Tuple, row: &Row) -> Result<(), AllocError>
 
 // Adds a line for each key of a map.
 fn add_cells(text: &mut Bytes, cells: btree_map::Iter<'_, Tuple, Row>) -> Result<(), AllocError>
-    ensures { OnOk result (text.new ≡ text.old ++ flat_map cell_text (of_pairs cells)) }
+    ensures { OnOk result (text.new ≡ text.old ++ flat_map cell_text (of_pairs cells.entry)) }
 {
     for (key, row) in cells {
         add_cell(text, key, row)?;
@@ -242,7 +242,7 @@ fn add_end(text: &mut Bytes, cells: usize) -> Result<(), AllocError>
 /// Adds the text of a table with its key columns in the given order: a line with the name and the columns, a line for
 /// each key in the rising order of the permuted keys, and a line with their number. In the table's own order the lines
 /// come straight from it.
-#[tactic(auto, unfolding(crate::specs::TableTexts::table_text))]
+#[tactic(auto, using(crate::proofs::TextFacts::text_whole))]
 pub fn add_table_text(
     alloc: Global,
     text: &mut Bytes,

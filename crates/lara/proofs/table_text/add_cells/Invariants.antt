@@ -6,4 +6,4 @@ use Rattle.lara.proofs.table_text.add_cells.Given as goal
 
 -- the lines that are left make the whole
 abbrev pub invariant-loop-key : goal.invariant-loop-key
-invariant-loop-key l = l.text ++ flat_map cell_text (of_pairs l.key-iterator) ≡ l.initial.text ++ flat_map cell_text (of_pairs l.initial.cells)
+invariant-loop-key l = l.text ++ flat_map cell_text (of_pairs l.key-iterator) ≡ l.initial.text ++ flat_map cell_text (of_pairs l.fn.cells)
