@@ -1,5 +1,5 @@
--- The columns of small extensions and renames, worked out by hand from the rules.
-use Rattle.std.specs.Prelude.{◌≡◌, true, List, [], ◌∷◌}
+-- The columns of small tables, extensions and renames, worked out by hand from the rules.
+use Rattle.std.specs.Prelude.{◌≡◌, ℕ, true, false, List, [], ◌∷◌, map}
 use Rattle.std.proofs.Common.{refl}
 use Rattle.lara_semiring.specs.declared.value.ValType.TheVariants as ty
 use Rattle.lara_semiring.specs.declared.value.Value.TheVariants.{Count}
@@ -10,8 +10,9 @@ use Rattle.lara_data.specs.declared.expr.Expr.TheVariants as expr
 use Rattle.lara_data.specs.declared.order.EachOp.TheVariants as each
 use Rattle.lara_data.specs.declared.table_type.KeyCol.{KeyCol}
 use Rattle.lara_data.specs.declared.table_type.ValCol.{ValCol}
-use Rattle.lara_data.specs.TableTypes.{Columns}
-use Rattle.lara_data.specs.Names.{Name, same_name}
+use Rattle.lara_data.specs.TableTypes.{Columns, are_columns}
+use Rattle.lara_data.specs.Names.{Name, same_name, has, distinct}
+use Rattle.lara_data.specs.TypeRules.{types_differ}
 use Rattle.lara_data.specs.Extensions.{each_columns, new_name, renamed_columns, renamed}
 
 i : Name
@@ -66,3 +67,51 @@ swapped = refl
 kept : renamed (to i j ∷ []) (record { ty = columns (key i ∷ []) (val v ∷ []); entries = record { key = Nat 1 ∷ []; row = Count 2 ∷ [] } ∷ [] }) ≡ record { ty = columns (key j ∷ []) (val v ∷ []); entries = record { key = Nat 1 ∷ []; row = Count 2 ∷ [] } ∷ [] }
 unfolding renamed renamed_columns new_name same_name i j v key val columns to
 kept = refl
+
+-- ---- how many columns, and of which names
+
+keys_of : List ℕ → List KeyCol
+keys_of ns = map (λ n. key (n ∷ [])) ns
+
+vals_of : List ℕ → List ValCol
+vals_of ns = map (λ n. val (n ∷ [])) ns
+
+-- eight columns of either kind are a table's, nine are not
+eight : are_columns (keys_of (1 ∷ 2 ∷ 3 ∷ 4 ∷ 5 ∷ 6 ∷ 7 ∷ 8 ∷ [])) (vals_of (11 ∷ 12 ∷ 13 ∷ 14 ∷ 15 ∷ 16 ∷ 17 ∷ 18 ∷ [])) ≡ true
+unfolding are_columns keys_of vals_of key val distinct has same_name
+eight = refl
+
+nine_keys : are_columns (keys_of (1 ∷ 2 ∷ 3 ∷ 4 ∷ 5 ∷ 6 ∷ 7 ∷ 8 ∷ 9 ∷ [])) (vals_of (11 ∷ [])) ≡ false
+unfolding are_columns keys_of vals_of key val distinct has same_name
+nine_keys = refl
+
+nine_vals : are_columns (keys_of (1 ∷ [])) (vals_of (11 ∷ 12 ∷ 13 ∷ 14 ∷ 15 ∷ 16 ∷ 17 ∷ 18 ∷ 19 ∷ [])) ≡ false
+unfolding are_columns keys_of vals_of key val distinct has same_name
+nine_vals = refl
+
+-- a table has a value column
+no_val : are_columns (keys_of (1 ∷ [])) [] ≡ false
+unfolding are_columns keys_of key distinct has same_name
+no_val = refl
+
+-- no key column has a value column's name
+one_name : are_columns (keys_of (1 ∷ 2 ∷ [])) (vals_of (2 ∷ [])) ≡ false
+unfolding are_columns keys_of vals_of key val distinct has same_name
+one_name = refl
+
+-- ---- what a name stands for
+
+-- a key on the left and a value on the right
+two_kinds : types_differ (columns (keys_of (1 ∷ 2 ∷ [])) (vals_of (3 ∷ []))) (columns (keys_of (1 ∷ [])) (vals_of (2 ∷ []))) ≡ true
+unfolding types_differ columns keys_of vals_of key val same_name
+two_kinds = refl
+
+-- a value on the left and a key on the right
+kinds_turned : types_differ (columns (keys_of (1 ∷ [])) (vals_of (2 ∷ []))) (columns (keys_of (1 ∷ 2 ∷ [])) (vals_of (3 ∷ []))) ≡ true
+unfolding types_differ columns keys_of vals_of key val same_name
+kinds_turned = refl
+
+-- one kind on both sides, and names that one side alone has
+one_kind : types_differ (columns (keys_of (1 ∷ 2 ∷ [])) (vals_of (4 ∷ []))) (columns (keys_of (2 ∷ 3 ∷ [])) (vals_of (4 ∷ 5 ∷ []))) ≡ false
+unfolding types_differ columns keys_of vals_of key val same_name
+one_kind = refl
