@@ -1,6 +1,6 @@
 //! Tables and their texts where there is memory, with texts worked out by hand. The names in these tests have one letter.
 ghost use Rattle.std.specs.Prelude.{◌≡◌, ◌∷◌, [], true, map, IfOk};
-ghost use Rattle.lara_key.specs.Keys.{tuple_has};
+ghost use Rattle.lara_key.specs.Keys.{tuple_has, has_key_type};
 ghost use Rattle.lara_key.specs.declared.key.KeyType.TheVariants.{Nat};
 ghost use Rattle.lara_key.specs.declared.key.KeyVal.TheVariants as key;
 ghost use Rattle.lara_semiring.specs.Rows.{row_has};
@@ -101,15 +101,30 @@ pub fn key(alloc: Global, numbers: &[u64]) -> Result<Tuple, AllocError>
     Ok(key)
 }
 
-// Whether a key has a number for each of these columns.
-#[tactic(auto, unfolding(lara_key::specs::Keys::tuple_has, lara_key::specs::Keys::has_key_type))]
+// Whether a column of a key is of this type.
+#[tactic(auto, unfolding(lara_key::specs::Keys::has_key_type))]
+fn is_of_type(ty: KeyType, value: &KeyVal) -> bool
+    ensures { result ≡ has_key_type ty value.now }
+{
+    match (ty, value) {
+        (KeyType::Nat, KeyVal::Nat(n)) => *n <= u64::MAX,
+    }
+}
+
+// Whether a key has a value of its type for each of these columns.
+#[tactic(auto, unfolding(lara_key::specs::Keys::tuple_has))]
 fn has_each(keys: &[KeyCol], key: &[KeyVal]) -> bool
     ensures { result ≡ tuple_has (key_types keys.now) key.now }
 {
-    match (keys, key) {
-        ([], []) => true,
-        ([_, keys @ ..], [_, key @ ..]) => has_each(keys, key),
-        _ => false,
+    match keys {
+        [] => match key {
+            [] => true,
+            [_first, _rest @ ..] => false,
+        },
+        [column, other_keys @ ..] => match key {
+            [] => false,
+            [value, others @ ..] => is_of_type(column.ty, value) && has_each(other_keys, others),
+        },
     }
 }
 
