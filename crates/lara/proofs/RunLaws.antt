@@ -12,7 +12,7 @@ use Rattle.lara_data.specs.Denotations.{Printed, denotation}
 use Rattle.lara_data.specs.Plugins.{Plugins}
 use Rattle.lara_syntax.specs.declared.ast.Ast.{Ast}
 use Rattle.lara_syntax.specs.Parsed.{parsed}
-use Rattle.lara_syntax.specs.ScriptLaws.{parsed_decides}
+use Rattle.lara_syntax.proofs.ScriptLaws.{parsed_decides_scripts}
 use Rattle.lara_types.specs.Checks.{checked}
 use Rattle.lara_types.specs.Found.{checked_has}
 use Rattle.lara_types.specs.Only.{has_checked}
@@ -73,7 +73,7 @@ module _ (ps : Plugins) (bytes : List ℕ) where
     pub script_ruled : (ss : List Statement) (over : Option ℕ) → IsScript ps bytes ss → past_range (denotation ps [] ss) ≡ over → ruling ps words bytes ≡ by_range (denotation ps [] ss).prints over
     script_ruled ss over s e =
         ruling_is s.short
-        ∙ script_is s.tree (parsed_decides.only bytes s.tree s.stands)
+        ∙ script_is s.tree (parsed_decides_scripts.only bytes s.tree s.stands)
         ∙ ap (typed_answer ps) (has_checked ps [] s.tree ss s.typed)
         ∙ typed_is ss
         ∙ ap (by_range (denotation ps [] ss).prints) e
@@ -82,8 +82,8 @@ module _ (ps : Plugins) (bytes : List ℕ) where
     pub refused_ruled : (r : Refusal) → ScriptRefused ps bytes r → StopsWith (ruling ps words bytes) (Script r.at r.kind)
     unfolding script_ruling
     refused_ruled r (too_many l) = rw (ruling_long l) refl
-    refused_ruled r (by_syntax _ l h) = rw (ruling_is l, parsed_decides.only_refusal bytes r h) refl
-    refused_ruled r (by_types _ tree l s h) = rw (ruling_is l, script_is tree (parsed_decides.only bytes tree s), script_judged ps [] tree r h) refl
+    refused_ruled r (by_syntax _ l h) = rw (ruling_is l, parsed_decides_scripts.only_refusal bytes r h) refl
+    refused_ruled r (by_types _ tree l s h) = rw (ruling_is l, script_is tree (parsed_decides_scripts.only bytes tree s), script_judged ps [] tree r h) refl
 
     -- ---- the other way
 
@@ -101,13 +101,13 @@ module _ (ps : Plugins) (bytes : List ℕ) where
       pub is : r ≡ stop step (Script refusal.at refusal.kind)
 
     types_split : (tree : Ast) (types : Result (List Statement) Refusal) → length bytes ≤ script_limit → parsed bytes ≡ Ok tree → checked ps [] tree ≡ types → Answered (typed_answer ps types) ⊎ Declined (typed_answer ps types)
-    types_split tree (Ok ss) l p c = inl (record { ss = ss; script = record { short = l; tree = tree; stands = parsed_decides.found bytes tree p; typed = checked_has ps [] tree ss c }; is = typed_is ss })
-    types_split tree (Err r) l p c = inr (record { step = at_types; refusal = r; refused = by_types r tree l (parsed_decides.found bytes tree p) (script_refused ps [] tree r c); is = refl })
+    types_split tree (Ok ss) l p c = inl (record { ss = ss; script = record { short = l; tree = tree; stands = parsed_decides_scripts.found bytes tree p; typed = checked_has ps [] tree ss c }; is = typed_is ss })
+    types_split tree (Err r) l p c = inr (record { step = at_types; refusal = r; refused = by_types r tree l (parsed_decides_scripts.found bytes tree p) (script_refused ps [] tree r c); is = refl })
 
     tree_split : (tree : Result Ast Refusal) → length bytes ≤ script_limit → parsed bytes ≡ tree → Answered (script_ruling ps bytes) ⊎ Declined (script_ruling ps bytes)
     unfolding script_ruling
     tree_split (Ok tree) l p = subst (λ (r : Result Answer Stop). Answered r ⊎ Declined r) (sym (script_is tree p)) (types_split tree (checked ps [] tree) l p refl)
-    tree_split (Err r) l p = inr (record { step = at_syntax; refusal = r; refused = by_syntax r l (parsed_decides.refused bytes r p); is = rw p refl })
+    tree_split (Err r) l p = inr (record { step = at_syntax; refusal = r; refused = by_syntax r l (parsed_decides_scripts.refused bytes r p); is = rw p refl })
 
     -- the bytes are a script, or they are refused
     pub split : Answered (ruling ps words bytes) ⊎ Declined (ruling ps words bytes)

@@ -50,7 +50,7 @@ pub fn table_of(
             let table = table_of(alloc, plugins, db, tables, a.get())?;
             agg(alloc, &table, keys)
         }
-        // No typed tree has one of these yet.
+        // no words yet: these are in no script
         Op::Map(_, _) => Assoc::empty(alloc, &node.ty),
         Op::Filter(_, _) => Assoc::empty(alloc, &node.ty),
         Op::Promote(_, _) => Assoc::empty(alloc, &node.ty),

@@ -34,6 +34,7 @@ OpTyped known (Literal es) ty = IsLiteral ty es
 OpTyped known (Join' _ (more_of-Node t a end_of-Node) _ (more_of-Node u b end_of-Node)) ty = (join_type t u ≡ Ok ty) × OpTyped known a t × OpTyped known b u
 OpTyped known (Union' _ (more_of-Node t a end_of-Node) _ (more_of-Node u b end_of-Node)) ty = (union_type t u ≡ Ok ty) × OpTyped known a t × OpTyped known b u
 OpTyped known (Agg' _ (more_of-Node t a end_of-Node) ks) ty = (agg_type t ks ≡ Ok ty) × OpTyped known a t
+-- no words yet
 OpTyped known (Map' _ (more_of-Node t a end_of-Node) defs) ty = ⊥
 OpTyped known (Filter' _ (more_of-Node t a end_of-Node) test) ty = ⊥
 OpTyped known (Promote' _ (more_of-Node t a end_of-Node) def) ty = ⊥

@@ -11,7 +11,6 @@ pub mod Reading
 pub mod Refusals
 pub mod Returns
 pub mod ScanSteps
-pub mod ScriptLaws
 pub mod Spans
 pub mod Spellings
 pub mod StartSymbols

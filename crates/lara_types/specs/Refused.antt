@@ -27,6 +27,7 @@ unfoldable pub operands : AstOp → List AstNode
 operands (Join' _ (more_of-AstNode i a end_of-AstNode) _ (more_of-AstNode j b end_of-AstNode)) = record { at = i; op = a } ∷ record { at = j; op = b } ∷ []
 operands (Union' _ (more_of-AstNode i a end_of-AstNode) _ (more_of-AstNode j b end_of-AstNode)) = record { at = i; op = a } ∷ record { at = j; op = b } ∷ []
 operands (Agg' _ (more_of-AstNode i a end_of-AstNode) ks) = record { at = i; op = a } ∷ []
+-- no words yet, or no tables
 operands op = []
 
 -- each tree stands for a typed one
