@@ -1,0 +1,9 @@
+pub mod CellLaws
+pub mod Columns
+pub mod Delimited
+pub mod HeadLaws
+pub mod Numbers
+pub mod TableTexts
+pub mod TextLaws
+pub mod Told
+pub mod TypeWords

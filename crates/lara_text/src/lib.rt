@@ -1,0 +1,9 @@
+//! Texts: the exact bytes of tables.
+#![tactic(auto)]
+
+mod cells;
+mod columns;
+mod heads;
+
+pub use cells::{add_cell, add_cell_line, add_end_line, cell_text};
+pub use heads::{add_head, add_head_line, table_head};
