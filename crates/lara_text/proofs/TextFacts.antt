@@ -5,6 +5,12 @@ use Rattle.lara_data.specs.declared.table_type.KeyCol.{KeyCol}
 use Rattle.lara_text.specs.TableTexts.{key_column_text, key_columns_text}
 use Rattle.std.proofs.lemmas.List.{flat_map_more, take_more, take_all, append-nil}
 
+-- a turn of a loop that adds an item's text to a text
+pub text_step : {X : Type 0} (f : X → List ℕ) (start text new : List ℕ) (xs : List X) (i : ℕ) (x : X) → i < length xs → x ≡ get_or xs i x → text ≡ start ++ flat_map f (take i xs) → new ≡ text ++ f x → new ≡ start ++ flat_map f (take (i + 1) xs)
+text_step f start text new xs i x l is so_far after =
+    let more : take (i + 1) xs ≡ take i xs ++ x ∷ [] = take_more xs i x l ∙ ap (λ y. take i xs ++ y ∷ []) (sym is) in
+    after ∙ ap (λ t. t ++ f x) so_far ∙ flat_map_more f start (take i xs) x ∙ ap (λ ys. start ++ flat_map f ys) (sym more)
+
 -- a turn of a loop that adds a text, and then an item's, to a text
 pub joined_step : {X : Type 0} (between : List ℕ) (f : X → List ℕ) (start text mid new : List ℕ) (xs : List X) (i : ℕ) (x : X) → i < length xs → x ≡ get_or xs i x → text ≡ start ++ flat_map (λ y. between ++ f y) (take i xs) → mid ≡ text ++ between → new ≡ mid ++ f x → new ≡ start ++ flat_map (λ y. between ++ f y) (take (i + 1) xs)
 joined_step {X} between f start text mid new xs i x l is so_far middle after =

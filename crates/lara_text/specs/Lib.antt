@@ -3,6 +3,7 @@ pub mod Columns
 pub mod Delimited
 pub mod HeadLaws
 pub mod Numbers
+pub mod Quotes
 pub mod TableTexts
 pub mod TextLaws
 pub mod Told
