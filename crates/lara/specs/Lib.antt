@@ -6,5 +6,4 @@ pub mod Ruling
 pub mod ScriptBytes
 pub mod Statuses
 pub mod Stops
-pub mod TableTexts
 pub mod Words

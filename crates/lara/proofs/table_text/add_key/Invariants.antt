@@ -1,8 +1,0 @@
-use Rattle.std.proofs.Common.{◌≡◌, ◌++◌, take, codes}
-use Rattle.std.specs.List.{flat_map}
-use Rattle.lara.specs.TableTexts.{key_text}
-use Rattle.lara.proofs.table_text.add_key.Given as goal
-
--- the columns so far
-abbrev pub invariant-loop-column : goal.invariant-loop-column
-invariant-loop-column l = l.text ≡ l.initial.text ++ flat_map (λ y. codes "," ++ key_text y) (take l.column-index l.others)
