@@ -10,5 +10,4 @@ pub mod RunRelations
 pub mod ScriptBytes
 pub mod Statuses
 pub mod Stops
-pub mod TableTexts
 pub mod Words

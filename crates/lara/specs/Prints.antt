@@ -3,7 +3,7 @@ use Rattle.std.specs.Prelude.{ℕ, List, [], ◌∷◌, Option, Some, None, if�
 use Rattle.std.specs.List.{flat_map}
 use Rattle.lara_data.specs.Denotations.{Printed}
 use Rattle.lara_data.specs.Tables.{is_in_range}
-use Rattle.lara.specs.TableTexts.{table_text}
+use Rattle.lara_text.specs.TableTexts.{table_text}
 
 -- the statement of the first print whose table is not in range
 unfoldable pub first_over : List Printed → Option ℕ

@@ -1,7 +1,7 @@
 use Rattle.std.proofs.Common.{◌≡◌, ◌++◌, take, codes}
 use Rattle.std.specs.List.{flat_map}
-use Rattle.lara.specs.TableTexts.{value_text}
-use Rattle.lara.proofs.table_text.add_row.Given as goal
+use Rattle.lara_text.specs.TableTexts.{value_text}
+use Rattle.lara_text.proofs.cells.add_row.Given as goal
 
 -- the columns so far
 abbrev pub invariant-loop-value : goal.invariant-loop-value

@@ -1,7 +1,7 @@
 use Rattle.std.proofs.Common.{◌≡◌, ◌++◌, take, codes}
 use Rattle.std.specs.List.{flat_map}
-use Rattle.lara.specs.TableTexts.{val_column_text}
-use Rattle.lara.proofs.table_text.add_val_columns.Given as goal
+use Rattle.lara_text.specs.TableTexts.{val_column_text}
+use Rattle.lara_text.proofs.columns.add_val_columns.Given as goal
 
 -- the columns so far
 abbrev pub invariant-loop-val : goal.invariant-loop-val

@@ -1,7 +1,7 @@
 use Rattle.std.proofs.Common.{◌≡◌, ◌++◌, take, codes}
 use Rattle.std.specs.List.{flat_map}
-use Rattle.lara.specs.TableTexts.{key_text}
-use Rattle.lara.proofs.table_text.add_key.Given as goal
+use Rattle.lara_text.specs.TableTexts.{key_text}
+use Rattle.lara_text.proofs.cells.add_key.Given as goal
 
 -- the columns so far
 abbrev pub invariant-loop-column : goal.invariant-loop-column

@@ -1,0 +1,3 @@
+pub mod TextFacts
+pub mod WorkedQuotes
+pub mod WorkedTexts

@@ -1,0 +1,10 @@
+pub mod CellLaws
+pub mod Columns
+pub mod Delimited
+pub mod HeadLaws
+pub mod Numbers
+pub mod Quotes
+pub mod TableTexts
+pub mod TextLaws
+pub mod Told
+pub mod TypeWords
