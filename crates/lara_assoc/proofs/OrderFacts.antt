@@ -14,7 +14,7 @@ use Rattle.lara_data.specs.Tables.{Entries, Table}
 use Rattle.lara_data.specs.Algebra.{heading, ordered}
 use Rattle.lara_data.specs.TypedTables.{KeyHas, IsTypedTable}
 use Rattle.lara_data.specs.DistinctColumns.{distinct_key_names}
-use Rattle.lara_data.specs.OtherSequences.{IsWhole, agg_itself}
+use Rattle.lara_data.specs.WholeKeys.{IsWhole, agg_itself}
 use Rattle.lara_assoc.specs.OwnOrders.{are_names}
 
 names_are : (ks : List KeyCol) (ns : List Name) → are_names ks ns ≡ true → ns ≡ key_names ks

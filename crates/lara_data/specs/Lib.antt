@@ -46,3 +46,4 @@ pub mod TypedTables
 pub mod TypedTrees
 pub mod ValSets
 pub mod Vals
+pub mod WholeKeys

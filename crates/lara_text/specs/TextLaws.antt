@@ -21,7 +21,7 @@ use Rattle.lara_data.specs.Tables.{Entries, Table, recut}
 use Rattle.lara_data.specs.Algebra.{heading, agg, agg_heading, key_col, key_cols, agg_table, ordered}
 use Rattle.lara_data.specs.AlgebraTyped.{all_have_agg}
 use Rattle.lara_data.specs.AlgebraSums.{agg_agg}
-use Rattle.lara_data.specs.OtherSequences.{IsWhole, agg_itself}
+use Rattle.lara_data.specs.WholeKeys.{IsWhole, agg_itself}
 use Rattle.lara_data.specs.Headings.{names_key_cols}
 use Rattle.lara_data.specs.DistinctColumns.{distinct_key_names}
 use Rattle.lara_data.specs.TypedTables.{KeyHas, IsTypedTable, cut_has}
