@@ -1,5 +1,5 @@
 -- A literal that has its columns and entries is typed.
-use Rattle.std.specs.Prelude.{◌≡◌, ℕ, ◌<◌, ◌-◌, ◌^◌, true, false, not, List, [], ◌∷◌}
+use Rattle.std.specs.Prelude.{◌≡◌, ℕ, ◌<◌, ◌-◌, ◌^◌, min, true, false, not, List, [], ◌∷◌}
 use Rattle.std.specs.List.{list_all, list_any}
 use Rattle.std.proofs.Common.{refl, ap, ◌∙◌, arith}
 use Rattle.std.proofs.lemmas.Bool.{and_from, or_from, lt-leb}
@@ -47,7 +47,7 @@ key_inside n h = lt-leb (2 ^ 64 - 1) n h
 
 val_inside : (n : ℕ) → n < 2 ^ 64 - 1 → value_is_over val_type.Count (value.Count n) ≡ false
 unfolding value_is_over
-val_inside n h = lt-leb (2 ^ 64 - 1) n h
+val_inside n h = lt-leb (2 ^ 64 - 1) (min n (2 ^ 64 - 1)) (omega (arith, h))
 
 key_is : (t : KeyType) (x : AstValue) (k : KeyVal) → IsKey t x k → (has_key_type t k ≡ true) × (key_is_over k ≡ false)
 key_is key_type.Nat (Number n) k h = (ap (has_key_type key_type.Nat) h.1 ∙ key_below n h.0, ap key_is_over h.1 ∙ key_inside n h.0)
