@@ -1,5 +1,5 @@
 -- Texts: byte strings of at most 1,024 bytes, and `over` for all that are longer.
-use Rattle.std.specs.Prelude.{◌≡◌, ℕ, Bool, true, ◌&&◌, nat_le, nat_lt, List, ◌∷◌, [], length}
+use Rattle.std.specs.Prelude.{◌≡◌, ℕ, Bool, true, false, ◌&&◌, nat_le, nat_lt, List, ◌∷◌, [], length}
 use Rattle.std.specs.List.{list_all}
 use Rattle.std.proofs.Common.{refl, ap}
 use Rattle.std.specs.declared.cmp.Ordering.{Ordering}
@@ -24,6 +24,12 @@ is_content bs = nat_le (length bs) 1024 && list_all is_byte bs
 abbrev pub is_text : Text → Bool
 is_text (Within bs) = is_content bs
 is_text Over = true
+
+-- the text has bytes, so that a copy takes memory
+abbrev pub has_bytes : Text → Bool
+has_bytes (Within []) = false
+has_bytes (Within (b ∷ bs)) = true
+has_bytes Over = false
 
 -- by the first bytes that differ, and a text before each longer one that begins with it
 abbrev pub bytes_cmp : List ℕ → List ℕ → Ordering

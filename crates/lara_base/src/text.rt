@@ -1,7 +1,6 @@
 //! Short texts.
-ghost use Rattle.std.specs.Prelude.{◌≡◌, ◌≤◌, ◌<◌, ◌++◌, [], true, length, All, IsOk, IfOk, MatchOption};
-ghost use Rattle.lara_base.specs.Texts.{is_content, is_text};
-ghost use Rattle.lara_base.specs.declared.text.Text.TheVariants.{Within, Over};
+ghost use Rattle.std.specs.Prelude.{◌≡◌, ◌≤◌, ◌<◌, ◌++◌, [], true, false, length, All, IsOk, IfOk, MatchOption};
+ghost use Rattle.lara_base.specs.Texts.{is_content, is_text, has_bytes};
 
 use crate::copied::Copied;
 use crate::list::{Bytes, List};
@@ -116,8 +115,7 @@ impl Text {
 impl Copied for Text {
     fn copy(&self, alloc: Global) -> Result<Self, AllocError>
         ensures same { IfOk result (λ r. r ≡ self.now) }
-        ensures empty { self.now ≡ Within [] → IsOk result }
-        ensures over { self.now ≡ Over → IsOk result }
+        ensures exact { has_bytes self.now ≡ false → IsOk result }
     {
         match self {
             Text::Within(c) => Ok(Text::Within(c.copy(alloc)?)),

@@ -1,5 +1,10 @@
 pub mod CountKind
+pub mod FlagKind
+pub mod LastKind
+pub mod MaxMinKind
+pub mod MinPlusKind
 pub mod OverFacts
+pub mod PathKind
 pub mod ValueKinds
 pub mod WorkedFlags
 pub mod WorkedLasts

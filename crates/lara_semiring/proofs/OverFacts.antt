@@ -17,15 +17,15 @@ row_is_over_more (t ∷ ts) (v ∷ a) zero d x l m = or-false (value_is_over t v
 row_is_over_more (t ∷ ts) (v ∷ a) (suc i) d x l m = rw (row_is_over_more ts a i d x (omega arith) (omega arith)) (sym (or_assoc (value_is_over t v) _ _))
 
 -- one more column that is not over, where us and b are what the columns are read from
-pub row_is_over_step : (ts us : List ValType) (a b : List Value) (i : ℕ) (t : ValType) (v : Value) → us ≡ ts → b ≡ a → row_has ts a ≡ true → i < length ts → value_is_over (get_or us i t) (get_or b i v) ≡ false → row_is_over (take i ts) a ≡ false → row_is_over (take (i + 1) ts) a ≡ false
-row_is_over_step ts us a b i t v read columns p l is before =
+pub row_is_over_step : (ts us : List ValType) (a b : List Value) (i : ℕ) (t : ValType) (v : Value) → us ≡ ts → b ≡ a → row_has ts a ≡ true → i < length ts → v ≡ get_or b i v → value_is_over (get_or us i t) v ≡ false → row_is_over (take i ts) a ≡ false → row_is_over (take (i + 1) ts) a ≡ false
+row_is_over_step ts us a b i t v read columns p l at is before =
     let m : i < length a = omega (arith, row_has_length ts a p) in
     let here : value_is_over (get_or ts i t) (get_or a i v) ≡ false = cc in
     rw add-one (row_is_over_more ts a i t v l m ∙ (λ k. before k || here k))
 
 -- a column that is over, where us and b are what the columns are read from
-pub row_is_over_stop : (ts us : List ValType) (a b : List Value) (i : ℕ) (t : ValType) (v : Value) → us ≡ ts → b ≡ a → row_has ts a ≡ true → i < length ts → value_is_over (get_or us i t) (get_or b i v) ≡ true → true ≡ row_is_over ts a
-row_is_over_stop ts us a b i t v read columns p l is =
+pub row_is_over_stop : (ts us : List ValType) (a b : List Value) (i : ℕ) (t : ValType) (v : Value) → us ≡ ts → b ≡ a → row_has ts a ≡ true → i < length ts → v ≡ get_or b i v → value_is_over (get_or us i t) v ≡ true → true ≡ row_is_over ts a
+row_is_over_stop ts us a b i t v read columns p l at is =
     let m : i < length a = omega (arith, row_has_length ts a p) in
     let here : value_is_over (get_or ts i t) (get_or a i v) ≡ true = cc in
     sym (row_is_over_at ts a i t v l m here)

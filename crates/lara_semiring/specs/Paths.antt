@@ -52,6 +52,13 @@ is_path (Within bs) = is_content bs
 is_path Over = true
 is_path Absent = true
 
+-- the path has bytes, so that a copy takes memory
+abbrev pub path_has_bytes : PathText → Bool
+path_has_bytes (Within []) = false
+path_has_bytes (Within (b ∷ bs)) = true
+path_has_bytes Over = false
+path_has_bytes Absent = false
+
 -- there is no path
 abbrev pub path_is_absent : PathText → Bool
 path_is_absent (Within bs) = false

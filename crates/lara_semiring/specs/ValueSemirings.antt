@@ -5,11 +5,15 @@ use Rattle.std.specs.Prelude.{◌≡◌, Bool, true, false, ◌&&◌, ◌||◌}
 use Rattle.std.proofs.Common.{sym, ap, ◌∙◌}
 use Rattle.lara_semiring.specs.Semirings.{SemiringLaws}
 use Rattle.lara_semiring.specs.declared.value.Value.{Value}
-use Rattle.lara_semiring.specs.declared.value.Value.TheVariants.{Count}
+use Rattle.lara_semiring.specs.declared.value.Value.TheVariants.{Last, Path}
+use Rattle.lara_semiring.specs.Paths.{path_has_bytes}
+use Rattle.lara_base.specs.Texts.{has_bytes}
 
--- the value holds a text, so that a copy takes memory
+-- the value holds the bytes of a text, so that a copy takes memory
 abbrev pub holds_text : Value → Bool
-holds_text (Count n) = false
+holds_text (Last x) = has_bytes x
+holds_text (Path x) = path_has_bytes x
+holds_text other = false
 
 -- all that is known of a value type
 pub record ValueSemiring : Type 1 where

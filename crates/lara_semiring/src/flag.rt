@@ -1,14 +1,34 @@
 //! The values of `flag`.
 ghost use Rattle.std.specs.Prelude.{◌≡◌, ◌↔◌, true, false, not, IsTrue, IfOk, IsOk};
-ghost use Rattle.lara_semiring.specs.FlagVals.{flag};
+ghost use Rattle.lara_semiring.specs.FlagVals.{flag, as_flag, of_flag};
 
 use crate::semiring::Semiring;
+use crate::value::Value;
 use std::alloc::{AllocError, Global};
 
 /// A flag. The sum is `or` and the product `and`. None is `over`.
 #[derive(Debug, Drop)]
 pub struct FlagVal {
     pub is_set: bool,
+}
+
+impl FlagVal {
+    /// The flag that a value is read as.
+    pub(crate) fn read(value: &Value) -> FlagVal
+        ensures { result ≡ as_flag value.now }
+    {
+        match value {
+            Value::Flag(is_set) => FlagVal { is_set: *is_set },
+            _ => FlagVal { is_set: false },
+        }
+    }
+
+    /// The flag as a value.
+    pub(crate) fn into_value(self) -> Value
+        ensures { result ≡ of_flag self }
+    {
+        Value::Flag(self.is_set)
+    }
 }
 
 impl Semiring for FlagVal {

@@ -1,15 +1,32 @@
 //! The values of `last`.
-ghost use Rattle.std.specs.Prelude.{◌≡◌, ◌↔◌, IsTrue, IfOk, IsOk};
+ghost use Rattle.std.specs.Prelude.{◌≡◌, ◌↔◌, true, false, IsTrue, IfOk, IsOk};
+ghost use Rattle.lara_base.specs.Texts.{has_bytes};
 ghost use Rattle.lara_base.specs.declared.text.Text.TheVariants.{Over};
+ghost use Rattle.lara_semiring.specs.LastVals.{as_last};
+ghost use Rattle.lara_semiring.specs.Values.{has_type};
+ghost use Rattle.lara_semiring.specs.declared.value.ValType.TheVariants.{Last};
 ghost use Rattle.lara_semiring.specs.Lasts.{last_zero, last_plus, last_times, last_is_zero, last_is_over};
 
 use crate::semiring::Semiring;
+use crate::value::Value;
 use lara_base::{Content, Copied, Text};
 use std::alloc::{AllocError, Global};
 
 /// A text of which the later stays: the sum is the greater by bytes and the product the lesser. `over` is after all
 /// texts, so it is the identity of the product.
 pub type LastVal = Text;
+
+/// The text that a value of `last` is.
+#[tactic(auto, using(crate::specs::LastVals::text_is_read), unfolding(crate::specs::Values::has_type))]
+pub(crate) fn last_of(value: &Value) -> &Text
+    requires { has_type Last value.now ≡ true }
+    ensures { result.now ≡ as_last value.now }
+{
+    match value {
+        Value::Last(text) => text,
+        _ => unreachable!(),
+    }
+}
 
 impl Semiring for Text {
     ghost use Rattle.lara_semiring.specs.LastVals.{IsLast, IsLastOver, last_laws};
@@ -42,8 +59,7 @@ impl Semiring for Text {
 
     fn plus(&self, alloc: Global, other: &Text) -> Result<Text, AllocError>
         ensures sum { IfOk result (λ r. r ≡ last_plus self.now other.now) }
-        ensures empty { last_plus self.now other.now ≡ last_zero → IsOk result }
-        ensures over { last_plus self.now other.now ≡ Over → IsOk result }
+        ensures exact { has_bytes (last_plus self.now other.now) ≡ false → IsOk result }
     {
         if self.cmp(other).is_le() {
             other.copy(alloc)
@@ -54,8 +70,7 @@ impl Semiring for Text {
 
     fn times(&self, alloc: Global, other: &Text) -> Result<Text, AllocError>
         ensures product { IfOk result (λ r. r ≡ last_times self.now other.now) }
-        ensures empty { last_times self.now other.now ≡ last_zero → IsOk result }
-        ensures over { last_times self.now other.now ≡ Over → IsOk result }
+        ensures exact { has_bytes (last_times self.now other.now) ≡ false → IsOk result }
     {
         if self.cmp(other).is_le() {
             self.copy(alloc)

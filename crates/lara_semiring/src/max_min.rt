@@ -1,9 +1,10 @@
 //! The values of `maxmin`.
 ghost use Rattle.std.specs.Prelude.{◌≡◌, ◌↔◌, ◌==◌, IsTrue, IfOk, IsOk};
 ghost use Rattle.lara_semiring.specs.MaxMin.{maxmin_over, maxmin_is_over};
-ghost use Rattle.lara_semiring.specs.MaxMinVals.{maxmin};
+ghost use Rattle.lara_semiring.specs.MaxMinVals.{maxmin, as_maxmin, of_maxmin};
 
 use crate::semiring::Semiring;
+use crate::value::Value;
 use std::alloc::{AllocError, Global};
 
 /// A width of 0 to 2^64 - 2, or `over` for all beyond, which is 2^64 - 1. The sum is the greater and the product the
@@ -11,6 +12,25 @@ use std::alloc::{AllocError, Global};
 #[derive(Debug, Drop)]
 pub struct MaxMinVal {
     pub number: u64,
+}
+
+impl MaxMinVal {
+    /// The width that a value is read as.
+    pub(crate) fn read(value: &Value) -> MaxMinVal
+        ensures { result ≡ as_maxmin value.now }
+    {
+        match value {
+            Value::MaxMin(number) => MaxMinVal { number: *number },
+            _ => MaxMinVal { number: 0 },
+        }
+    }
+
+    /// The width as a value.
+    pub(crate) fn into_value(self) -> Value
+        ensures { result ≡ of_maxmin self }
+    {
+        Value::MaxMin(self.number)
+    }
 }
 
 impl Semiring for MaxMinVal {

@@ -1,9 +1,10 @@
 //! The values of `minplus`.
 ghost use Rattle.std.specs.Prelude.{◌≡◌, ◌↔◌, ◌==◌, IsTrue, IfOk, IsOk};
 ghost use Rattle.lara_semiring.specs.MinPlus.{minplus_inf, minplus_is_over};
-ghost use Rattle.lara_semiring.specs.MinPlusVals.{minplus};
+ghost use Rattle.lara_semiring.specs.MinPlusVals.{minplus, as_minplus, of_minplus};
 
 use crate::semiring::Semiring;
+use crate::value::Value;
 use std::alloc::{AllocError, Global};
 
 /// No way at all.
@@ -17,6 +18,25 @@ const OVER: u64 = u64::MAX - 1;
 #[derive(Debug, Drop)]
 pub struct MinPlusVal {
     pub number: u64,
+}
+
+impl MinPlusVal {
+    /// The distance that a value is read as.
+    pub(crate) fn read(value: &Value) -> MinPlusVal
+        ensures { result ≡ as_minplus value.now }
+    {
+        match value {
+            Value::MinPlus(number) => MinPlusVal { number: *number },
+            _ => MinPlusVal { number: INF },
+        }
+    }
+
+    /// The distance as a value.
+    pub(crate) fn into_value(self) -> Value
+        ensures { result ≡ of_minplus self }
+    {
+        Value::MinPlus(self.number)
+    }
 }
 
 impl Semiring for MinPlusVal {

@@ -1,9 +1,13 @@
 //! The values of `path`.
-ghost use Rattle.std.specs.Prelude.{◌≡◌, ◌↔◌, [], IsTrue, IfOk, IsOk};
-ghost use Rattle.lara_semiring.specs.Paths.{path_cmp, path_plus, path_times, path_is_absent, path_is_over};
+ghost use Rattle.std.specs.Prelude.{◌≡◌, ◌↔◌, [], true, false, IsTrue, IfOk, IsOk};
+ghost use Rattle.lara_semiring.specs.Paths.{path_cmp, path_plus, path_times, path_has_bytes, path_is_absent, path_is_over};
+ghost use Rattle.lara_semiring.specs.PathVals.{as_path};
+ghost use Rattle.lara_semiring.specs.Values.{has_type};
+ghost use Rattle.lara_semiring.specs.declared.value.ValType.TheVariants.{Path};
 ghost use Rattle.lara_semiring.specs.declared.path.PathText.TheVariants.{Within, Over, Absent};
 
 use crate::semiring::Semiring;
+use crate::value::Value;
 use lara_base::{Content, Copied};
 use std::alloc::{AllocError, Global};
 use std::cmp::Ordering;
@@ -19,6 +23,18 @@ pub enum PathText {
 /// A path of which the least stays: the sum is the lesser, by length and then by bytes, and the product puts one text
 /// behind the other.
 pub type PathVal = PathText;
+
+/// The path that a value of `path` is.
+#[tactic(auto, using(crate::specs::PathVals::path_is_read), unfolding(crate::specs::Values::has_type))]
+pub(crate) fn path_of(value: &Value) -> &PathText
+    requires { has_type Path value.now ≡ true }
+    ensures { result.now ≡ as_path value.now }
+{
+    match value {
+        Value::Path(path) => path,
+        _ => unreachable!(),
+    }
+}
 
 impl PathText {
     /// How two paths compare: texts by their lengths and then by their bytes, then `Over`, then `Absent`.
@@ -39,9 +55,7 @@ impl PathText {
 impl Copied for PathText {
     fn copy(&self, alloc: Global) -> Result<PathText, AllocError>
         ensures same { IfOk result (λ r. r ≡ self.now) }
-        ensures empty { self.now ≡ Within [] → IsOk result }
-        ensures over { self.now ≡ Over → IsOk result }
-        ensures absent { self.now ≡ Absent → IsOk result }
+        ensures exact { path_has_bytes self.now ≡ false → IsOk result }
     {
         match self {
             PathText::Within(content) => Ok(PathText::Within(content.copy(alloc)?)),
@@ -84,8 +98,7 @@ impl Semiring for PathText {
 
     fn plus(&self, alloc: Global, other: &PathText) -> Result<PathText, AllocError>
         ensures sum { IfOk result (λ r. r ≡ path_plus self.now other.now) }
-        ensures over { path_plus self.now other.now ≡ Over → IsOk result }
-        ensures absent { path_plus self.now other.now ≡ Absent → IsOk result }
+        ensures exact { path_has_bytes (path_plus self.now other.now) ≡ false → IsOk result }
     {
         if self.compare(other).is_le() {
             self.copy(alloc)
