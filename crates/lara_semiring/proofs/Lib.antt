@@ -12,4 +12,5 @@ pub mod WorkedMaxMin
 pub mod WorkedMinPlus
 pub mod WorkedPaths
 pub mod WorkedRows
+pub mod WorkedTypes
 pub mod WorkedValues

@@ -5,6 +5,8 @@ pub mod Decided
 pub mod FixedWords
 pub mod Grammar
 pub mod Limits
+pub mod LiteralLaws
+pub mod Literals
 pub mod Parsed
 pub mod Places
 pub mod Reading

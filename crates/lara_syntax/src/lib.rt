@@ -11,6 +11,7 @@ mod count;
 mod fault;
 mod fixed_words;
 mod item;
+mod literals;
 mod parsing;
 mod rules;
 mod scan;
@@ -27,6 +28,7 @@ pub use ast::{
 pub use ast_expr::{AstExpr, AstForm};
 pub use ast_part::{AstArg, AstArgLit, AstArgValue, AstCall, AstDef, AstDefs, AstKeyDef, AstPair};
 pub use lara_data::{FunOp, KeyCol, Kind, ReadFault, Refusal, TableType, TwoOp, ValCol};
+pub use literals::{is_key_in_range, is_key_lit, is_val_in_range, is_val_lit, key_of, value_of};
 pub use parsing::parse;
 pub use token::{Token, TokenList, TokenWord, tokens};
 

@@ -4,15 +4,7 @@ use Rattle.std.specs.List.{list_all, list_any}
 use Rattle.std.proofs.Common.{refl, ap, ◌∙◌, arith}
 use Rattle.std.proofs.lemmas.Bool.{and_from, or_from, lt-leb}
 use Rattle.std.proofs.lemmas.Bool.Decides.{nat_tests}
-use Rattle.lara_key.specs.declared.key.KeyType.{KeyType}
-use Rattle.lara_key.specs.declared.key.KeyType.TheVariants as key_type
-use Rattle.lara_key.specs.declared.key.KeyVal.{KeyVal}
-use Rattle.lara_key.specs.declared.key.KeyVal.TheVariants as key
 use Rattle.lara_key.specs.Keys.{has_key_type, tuple_has, key_is_over}
-use Rattle.lara_semiring.specs.declared.value.ValType.{ValType}
-use Rattle.lara_semiring.specs.declared.value.ValType.TheVariants as val_type
-use Rattle.lara_semiring.specs.declared.value.Value.{Value}
-use Rattle.lara_semiring.specs.declared.value.Value.TheVariants as value
 use Rattle.lara_semiring.specs.Values.{has_type, value_is_over}
 use Rattle.lara_semiring.specs.Rows.{row_has, row_is_over}
 use Rattle.lara_data.specs.declared.node.Node.{Node}
@@ -27,36 +19,8 @@ use Rattle.lara_data.specs.TypedTrees.{IsLiteral}
 use Rattle.lara_syntax.specs.declared.ast.AstEntry.{AstEntry}
 use Rattle.lara_syntax.specs.declared.ast.AstLit.{AstLit}
 use Rattle.lara_syntax.specs.declared.ast.AstType.{AstType}
-use Rattle.lara_syntax.specs.declared.ast.AstValue.{AstValue}
-use Rattle.lara_syntax.specs.declared.ast.AstValue.TheVariants.{Number}
-use Rattle.lara_types.specs.HasTypes.{IsKey, IsVal, AreKeys, AreVals, AreEntries, LiteralHas}
-
--- ---- one value
-
-key_below : (n : ℕ) → n < 2 ^ 64 - 1 → has_key_type key_type.Nat (key.Nat n) ≡ true
-unfolding has_key_type
-key_below n h = grind (arith, nat_tests)
-
-val_below : (n : ℕ) → n < 2 ^ 64 - 1 → has_type val_type.Count (value.Count n) ≡ true
-unfolding has_type
-val_below n h = grind (arith, nat_tests)
-
-key_inside : (n : ℕ) → n < 2 ^ 64 - 1 → key_is_over (key.Nat n) ≡ false
-unfolding key_is_over
-key_inside n h = lt-leb (2 ^ 64 - 1) n h
-
-val_inside : (n : ℕ) → n < 2 ^ 64 - 1 → value_is_over val_type.Count (value.Count n) ≡ false
-unfolding value_is_over
-val_inside n h = lt-leb (2 ^ 64 - 1) (min n (2 ^ 64 - 1)) (omega (arith, h))
-
-key_is : (t : KeyType) (x : AstValue) (k : KeyVal) → IsKey t x k → (has_key_type t k ≡ true) × (key_is_over k ≡ false)
-key_is key_type.Nat (Number n) k h = (ap (has_key_type key_type.Nat) h.1 ∙ key_below n h.0, ap key_is_over h.1 ∙ key_inside n h.0)
-key_is key_type.Nat other k h = absurd h
-
-val_is : (t : ValType) (x : AstValue) (v : Value) → IsVal t x v → (has_type t v ≡ true) × (value_is_over t v ≡ false)
-val_is val_type.Count (Number n) v h =
-    (ap (has_type val_type.Count) h.1 ∙ val_below n h.0, ap (value_is_over val_type.Count) h.1 ∙ val_inside n h.0)
-val_is val_type.Count other v h = absurd h
+use Rattle.lara_syntax.specs.LiteralLaws.{key_is, val_is}
+use Rattle.lara_types.specs.HasTypes.{AreKeys, AreVals, AreEntries, LiteralHas}
 
 -- ---- keys, rows and entries
 

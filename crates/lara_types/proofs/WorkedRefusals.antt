@@ -33,7 +33,7 @@ use Rattle.lara_types.specs.Checks.{checked}
 use Rattle.lara_types.specs.Found.{checked_has}
 use Rattle.lara_types.specs.HasTypes.{HasTypes}
 use Rattle.lara_types.specs.LiteralValues.{key_values, row_values}
-use Rattle.lara_types.specs.NodeRules.{key_rules, once_rules, join_rules, agg_rules, key_kind_rules, val_kind_rules, range_rules, entry_rules, entries_rules, literal_rules, print_rules, rules_of}
+use Rattle.lara_types.specs.NodeRules.{key_rules, once_rules, join_rules, agg_rules, key_kind_rules, val_kind_rules, key_range_rules, val_range_rules, entry_rules, entries_rules, literal_rules, print_rules, rules_of}
 use Rattle.lara_types.specs.Refused.{operands, NodesHave, NodeRefused, here, below, Refused}
 use Rattle.lara_types.specs.RefusedLaws.{script_refused}
 use Rattle.lara_types.specs.RuleLaws.{is_broken}
@@ -103,12 +103,12 @@ inf place = record { at = place; value = Inf }
 
 -- a key past its range, and a value of the wrong kind behind it: kinds come before ranges
 kind_first : FirstBroken (entry_rules ij_v (record { at = 20; key = number 20 (2 ^ 64 - 1) ∷ number 22 0 ∷ []; row = inf 24 ∷ [] })) (record { at = 24; kind = TypesDiffer })
-unfolding first_broken key_kind_rules val_kind_rules range_rules
+unfolding first_broken key_kind_rules val_kind_rules key_range_rules val_range_rules
 kind_first = is_broken (entry_rules ij_v (record { at = 20; key = number 20 (2 ^ 64 - 1) ∷ number 22 0 ∷ []; row = inf 24 ∷ [] })) (record { at = 24; kind = TypesDiffer }) refl
 
 -- a value past its range
 range_last : FirstBroken (entry_rules ij_v (record { at = 20; key = number 20 1 ∷ number 22 0 ∷ []; row = number 24 (2 ^ 64 - 1) ∷ [] })) (record { at = 24; kind = NotInRange })
-unfolding first_broken key_kind_rules val_kind_rules range_rules
+unfolding first_broken key_kind_rules val_kind_rules key_range_rules val_range_rules
 range_last = is_broken (entry_rules ij_v (record { at = 20; key = number 20 1 ∷ number 22 0 ∷ []; row = number 24 (2 ^ 64 - 1) ∷ [] })) (record { at = 24; kind = NotInRange }) refl
 
 -- a literal too few, and one of the wrong kind: the number of literals comes first
@@ -131,7 +131,7 @@ name_first = is_broken (literal_rules 2 (record { keys = key_col 8 i ∷ []; val
 
 -- the entries are looked at one after the other: a number past its range in the first comes before a wrong kind in the next
 entry_first : FirstBroken (entries_rules i_w (record { at = 25; key = number 25 1 ∷ []; row = number 27 (2 ^ 64 - 1) ∷ [] } ∷ record { at = 30; key = inf 30 ∷ []; row = inf 32 ∷ [] } ∷ [])) (record { at = 27; kind = NotInRange })
-unfolding first_broken entries_rules key_kind_rules val_kind_rules range_rules
+unfolding first_broken entries_rules key_kind_rules val_kind_rules key_range_rules val_range_rules
 entry_first = is_broken (entries_rules i_w (record { at = 25; key = number 25 1 ∷ []; row = number 27 (2 ^ 64 - 1) ∷ [] } ∷ record { at = 30; key = inf 30 ∷ []; row = inf 32 ∷ [] } ∷ [])) (record { at = 27; kind = NotInRange }) refl
 
 -- ---- trees
@@ -184,5 +184,5 @@ abbrev assigned_table : Node
 assigned_table = record { ty = record { keys = key j ∷ []; vals = val v ∷ [] }; op = to.Literal (record { key = key_value.Nat 1 ∷ []; row = value.Count 2 ∷ [] } ∷ []) }
 
 one_typed : (ps : Plugins) → HasTypes ps [] one_statement (Assign i assigned_table ∷ Print i (j ∷ []) ∷ [])
-unfolding checked walk checked_op first_broken once_rules entries_rules key_kind_rules val_kind_rules range_rules key_values row_values are_columns distinct newest same_name has
+unfolding checked walk checked_op first_broken once_rules entries_rules key_kind_rules val_kind_rules key_range_rules val_range_rules key_values row_values are_columns distinct newest same_name has
 one_typed ps = checked_has ps [] one_statement (Assign i assigned_table ∷ Print i (j ∷ []) ∷ []) refl

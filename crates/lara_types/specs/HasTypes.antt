@@ -1,14 +1,6 @@
 -- Which typed script a tree stands for, with no walk and no sequence of rules: each node has what is written, and its
 -- columns by the rules.
 use Rattle.std.specs.Prelude.{◌≡◌, ◌<◌, ◌-◌, ◌^◌, true, List, [], ◌∷◌, Option, Some, None}
-use Rattle.lara_key.specs.declared.key.KeyType.{KeyType}
-use Rattle.lara_key.specs.declared.key.KeyType.TheVariants as key_type
-use Rattle.lara_key.specs.declared.key.KeyVal.{KeyVal}
-use Rattle.lara_key.specs.declared.key.KeyVal.TheVariants as key
-use Rattle.lara_semiring.specs.declared.value.ValType.{ValType}
-use Rattle.lara_semiring.specs.declared.value.ValType.TheVariants as val_type
-use Rattle.lara_semiring.specs.declared.value.Value.{Value}
-use Rattle.lara_semiring.specs.declared.value.Value.TheVariants as value
 use Rattle.lara_data.specs.declared.node.Node.{Node}
 use Rattle.lara_data.specs.declared.node.Op.TheVariants as to
 use Rattle.lara_data.specs.declared.schema.Schema.{Schema}
@@ -35,21 +27,10 @@ use Rattle.lara_syntax.specs.declared.ast.AstOp.TheVariants.{Load, Named, Litera
 use Rattle.lara_syntax.specs.declared.ast.AstStatement.{AstStatement}
 use Rattle.lara_syntax.specs.declared.ast.AstStatement.TheVariants as ast
 use Rattle.lara_syntax.specs.declared.ast.AstType.{AstType}
-use Rattle.lara_syntax.specs.declared.ast.AstValue.{AstValue}
-use Rattle.lara_syntax.specs.declared.ast.AstValue.TheVariants.{Number}
+use Rattle.lara_syntax.specs.Literals.{IsKey, IsVal}
 use Rattle.lara_types.specs.Written.{plain, columns}
 
 -- ---- literals
-
--- the literal is the key column's value: a number below 2 ^ 64 - 1 is a nat
-abbrev pub IsKey : KeyType → AstValue → KeyVal → Type 0
-IsKey key_type.Nat (Number n) k = (n < 2 ^ 64 - 1) × (k ≡ key.Nat n)
-IsKey key_type.Nat other k = ⊥
-
--- the literal is the value column's value
-abbrev pub IsVal : ValType → AstValue → Value → Type 0
-IsVal val_type.Count (Number n) v = (n < 2 ^ 64 - 1) × (v ≡ value.Count n)
-IsVal val_type.Count other v = ⊥
 
 -- as many literals as key columns, and each is the value of its column
 unfoldable pub AreKeys : List KeyCol → List AstLit → Tuple → Type 0

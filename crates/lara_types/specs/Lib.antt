@@ -6,7 +6,6 @@ pub mod HasTypes
 pub mod LiteralLaws
 pub mod LiteralTypes
 pub mod LiteralValues
-pub mod Literals
 pub mod NodeRuleLaws
 pub mod NodeRules
 pub mod Only

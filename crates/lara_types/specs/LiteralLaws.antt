@@ -4,12 +4,6 @@ use Rattle.std.specs.Str.{bytes_eq}
 use Rattle.std.proofs.Common.{refl, sym, ap, ◌∙◌, arith, suc, subst}
 use Rattle.std.proofs.Math.Bool.{or_assoc}
 use Rattle.std.proofs.lemmas.Bool.{ltb-true, lt-ltb, eqb-true, eq-eqb, and_parts, and_from}
-use Rattle.lara_key.specs.declared.key.KeyType.{KeyType}
-use Rattle.lara_key.specs.declared.key.KeyType.TheVariants as key_type
-use Rattle.lara_key.specs.declared.key.KeyVal.{KeyVal}
-use Rattle.lara_semiring.specs.declared.value.ValType.{ValType}
-use Rattle.lara_semiring.specs.declared.value.ValType.TheVariants as val_type
-use Rattle.lara_semiring.specs.declared.value.Value.{Value}
 use Rattle.lara_data.specs.declared.node.Node.{Node}
 use Rattle.lara_data.specs.declared.node.Op.TheVariants as to
 use Rattle.lara_data.specs.declared.table_type.KeyCol.{KeyCol}
@@ -25,48 +19,28 @@ use Rattle.lara_syntax.specs.declared.ast.AstLit.{AstLit}
 use Rattle.lara_syntax.specs.declared.ast.AstName.{AstName}
 use Rattle.lara_syntax.specs.declared.ast.AstType.{AstType}
 use Rattle.lara_syntax.specs.declared.ast.AstValCol.{AstValCol}
-use Rattle.lara_syntax.specs.declared.ast.AstValue.{AstValue}
-use Rattle.lara_syntax.specs.declared.ast.AstValue.TheVariants.{Number}
+use Rattle.lara_syntax.specs.LiteralLaws.{key_met, val_met, key_meets, val_meets}
 use Rattle.lara_types.specs.Answered.{answered}
 use Rattle.lara_types.specs.CheckedTrees.{typed, literal}
-use Rattle.lara_types.specs.HasTypes.{IsKey, IsVal, AreKeys, AreVals, AreEntries, LiteralHas}
-use Rattle.lara_types.specs.LiteralValues.{key_value, row_value, key_values, row_values, entry_value}
-use Rattle.lara_types.specs.Literals.{is_key_lit, is_val_lit, is_in_range}
+use Rattle.lara_types.specs.HasTypes.{AreKeys, AreVals, AreEntries, LiteralHas}
+use Rattle.lara_types.specs.LiteralValues.{key_values, row_values, entry_value}
 use Rattle.lara_types.specs.NodeRuleLaws.{once_meets}
-use Rattle.lara_types.specs.NodeRules.{once_rules, key_kind_rules, val_kind_rules, range_rules, entry_rules, entries_rules, column_rules, literal_rules}
+use Rattle.lara_types.specs.NodeRules.{once_rules, key_kind_rules, val_kind_rules, key_range_rules, val_range_rules, entry_rules, entries_rules, column_rules, literal_rules}
 use Rattle.lara_types.specs.RuleLaws.{met_parts, met_from, first_met, rest_met, met_cons, met_end, rules_met, rules_answer}
 use Rattle.lara_types.specs.Rules.{AllMet}
 use Rattle.lara_types.specs.Written.{plain, names_of, key_col, val_col, columns}
 
--- ---- values
-
-key_met : (t : KeyType) (x : AstValue) → is_key_lit t x ≡ true → is_in_range x ≡ true → IsKey t x (key_value t x)
-key_met key_type.Nat (Number n) k r = (ltb-true n (2 ^ 64 - 1) r, refl)
-key_met key_type.Nat other k r = absurd cc
-
-val_met : (t : ValType) (x : AstValue) → is_val_lit t x ≡ true → is_in_range x ≡ true → IsVal t x (row_value t x)
-val_met val_type.Count (Number n) k r = (ltb-true n (2 ^ 64 - 1) r, refl)
-val_met val_type.Count other k r = absurd cc
-
-key_meets : (t : KeyType) (x : AstValue) (k : KeyVal) → IsKey t x k → (is_key_lit t x ≡ true) × (is_in_range x ≡ true) × (key_value t x ≡ k)
-key_meets key_type.Nat (Number n) k h = (refl, lt-ltb n (2 ^ 64 - 1) h.0, sym h.1)
-key_meets key_type.Nat other k h = absurd h
-
-val_meets : (t : ValType) (x : AstValue) (v : Value) → IsVal t x v → (is_val_lit t x ≡ true) × (is_in_range x ≡ true) × (row_value t x ≡ v)
-val_meets val_type.Count (Number n) v h = (refl, lt-ltb n (2 ^ 64 - 1) h.0, sym h.1)
-val_meets val_type.Count other v h = absurd h
-
 -- ---- keys and rows
 
-keys_met : (cs : List KeyCol) (ls : List AstLit) → length ls ≡ length cs → AllMet (key_kind_rules cs ls) → AllMet (range_rules ls) → AreKeys cs ls (key_values cs ls)
-unfolding AllMet key_kind_rules range_rules AreKeys key_values
+keys_met : (cs : List KeyCol) (ls : List AstLit) → length ls ≡ length cs → AllMet (key_kind_rules cs ls) → AllMet (key_range_rules cs ls) → AreKeys cs ls (key_values cs ls)
+unfolding AllMet key_kind_rules key_range_rules AreKeys key_values
 keys_met [] [] l k r = tt
 keys_met [] (x ∷ ls) l k r = absurd (omega (arith, l))
 keys_met (c ∷ cs) [] l k r = absurd (omega (arith, l))
 keys_met (c ∷ cs) (x ∷ ls) l k r = (key_met c.ty x.value k.0 r.0, keys_met cs ls (omega (arith, l)) k.1 r.1)
 
-rows_met : (cs : List ValCol) (ls : List AstLit) → length ls ≡ length cs → AllMet (val_kind_rules cs ls) → AllMet (range_rules ls) → AreVals cs ls (row_values cs ls)
-unfolding AllMet val_kind_rules range_rules AreVals row_values
+rows_met : (cs : List ValCol) (ls : List AstLit) → length ls ≡ length cs → AllMet (val_kind_rules cs ls) → AllMet (val_range_rules cs ls) → AreVals cs ls (row_values cs ls)
+unfolding AllMet val_kind_rules val_range_rules AreVals row_values
 rows_met [] [] l k r = tt
 rows_met [] (x ∷ ls) l k r = absurd (omega (arith, l))
 rows_met (c ∷ cs) [] l k r = absurd (omega (arith, l))
@@ -79,8 +53,8 @@ record Meet (Whole Kinds Ranges Are : Type 0) : Type 0 where
   ranges : Ranges
   value : Are
 
-keys_meet : (cs : List KeyCol) (ls : List AstLit) (ks : Tuple) → AreKeys cs ls ks → Meet (length ls ≡ length cs) (AllMet (key_kind_rules cs ls)) (AllMet (range_rules ls)) (key_values cs ls ≡ ks)
-unfolding AllMet key_kind_rules range_rules AreKeys key_values
+keys_meet : (cs : List KeyCol) (ls : List AstLit) (ks : Tuple) → AreKeys cs ls ks → Meet (length ls ≡ length cs) (AllMet (key_kind_rules cs ls)) (AllMet (key_range_rules cs ls)) (key_values cs ls ≡ ks)
+unfolding AllMet key_kind_rules key_range_rules AreKeys key_values
 keys_meet [] [] [] h = record { whole = refl; kinds = tt; ranges = tt; value = refl }
 keys_meet [] [] (k ∷ ks) h = absurd h
 keys_meet [] (l ∷ ls) ks h = absurd h
@@ -91,8 +65,8 @@ keys_meet (c ∷ cs) (l ∷ ls) (k ∷ ks) h =
     let rest = keys_meet cs ls ks h.1 in
     record { whole = ap suc rest.whole; kinds = (one.0, rest.kinds); ranges = (one.1, rest.ranges); value = λ i. one.2 i ∷ rest.value i }
 
-rows_meet : (cs : List ValCol) (ls : List AstLit) (vs : Row) → AreVals cs ls vs → Meet (length ls ≡ length cs) (AllMet (val_kind_rules cs ls)) (AllMet (range_rules ls)) (row_values cs ls ≡ vs)
-unfolding AllMet val_kind_rules range_rules AreVals row_values
+rows_meet : (cs : List ValCol) (ls : List AstLit) (vs : Row) → AreVals cs ls vs → Meet (length ls ≡ length cs) (AllMet (val_kind_rules cs ls)) (AllMet (val_range_rules cs ls)) (row_values cs ls ≡ vs)
+unfolding AllMet val_kind_rules val_range_rules AreVals row_values
 rows_meet [] [] [] h = record { whole = refl; kinds = tt; ranges = tt; value = refl }
 rows_meet [] [] (v ∷ vs) h = absurd h
 rows_meet [] (l ∷ ls) vs h = absurd h
@@ -108,9 +82,9 @@ rows_meet (c ∷ cs) (l ∷ ls) (v ∷ vs) h =
 pub entry_met : (ty : Columns) (x : AstEntry) → AllMet (entry_rules ty x) → AreKeys ty.keys x.key (key_values ty.keys x.key) × AreVals ty.vals x.row (row_values ty.vals x.row)
 entry_met ty x m =
     let whole = and_parts (length x.key == length ty.keys) (length x.row == length ty.vals) (first_met _ _ m) in
-    let p = met_parts (key_kind_rules ty.keys x.key ++ val_kind_rules ty.vals x.row) (range_rules x.key ++ range_rules x.row) (rest_met _ _ m) in
+    let p = met_parts (key_kind_rules ty.keys x.key ++ val_kind_rules ty.vals x.row) (key_range_rules ty.keys x.key ++ val_range_rules ty.vals x.row) (rest_met _ _ m) in
     let kinds = met_parts (key_kind_rules ty.keys x.key) (val_kind_rules ty.vals x.row) p.0 in
-    let ranges = met_parts (range_rules x.key) (range_rules x.row) p.1 in
+    let ranges = met_parts (key_range_rules ty.keys x.key) (val_range_rules ty.vals x.row) p.1 in
     (keys_met ty.keys x.key (eqb-true (length x.key) (length ty.keys) whole.0) kinds.0 ranges.0, rows_met ty.vals x.row (eqb-true (length x.row) (length ty.vals) whole.1) kinds.1 ranges.1)
 
 entry_meets : (ty : Columns) (x : AstEntry) (e : Entry) → AreKeys ty.keys x.key e.key → AreVals ty.vals x.row e.row → AllMet (entry_rules ty x) × (entry_value ty x ≡ e)
@@ -118,9 +92,9 @@ entry_meets ty x e h g =
     let k = keys_meet ty.keys x.key e.key h in
     let v = rows_meet ty.vals x.row e.row g in
     let whole = and_from (length x.key == length ty.keys) (length x.row == length ty.vals) (eq-eqb (length x.key) (length ty.keys) k.whole) (eq-eqb (length x.row) (length ty.vals) v.whole) in (
-      met_cons _ _ whole (met_from (key_kind_rules ty.keys x.key ++ val_kind_rules ty.vals x.row) (range_rules x.key ++ range_rules x.row)
+      met_cons _ _ whole (met_from (key_kind_rules ty.keys x.key ++ val_kind_rules ty.vals x.row) (key_range_rules ty.keys x.key ++ val_range_rules ty.vals x.row)
           (met_from (key_kind_rules ty.keys x.key) (val_kind_rules ty.vals x.row) k.kinds v.kinds)
-          (met_from (range_rules x.key) (range_rules x.row) k.ranges v.ranges)),
+          (met_from (key_range_rules ty.keys x.key) (val_range_rules ty.vals x.row) k.ranges v.ranges)),
       λ i. record { key = k.value i; row = v.value i },
     )
 

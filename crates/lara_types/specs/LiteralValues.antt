@@ -1,17 +1,9 @@
--- The values of a literal's entries. A literal that breaks a rule has some value too, which is never asked for.
-use Rattle.std.specs.Prelude.{List, [], ◌∷◌}
-use Rattle.lara_key.specs.declared.key.KeyType.{KeyType}
-use Rattle.lara_key.specs.declared.key.KeyType.TheVariants.{Nat}
-use Rattle.lara_key.specs.declared.key.KeyVal.{KeyVal}
-use Rattle.lara_key.specs.declared.key.KeyVal.TheVariants as key
-use Rattle.lara_semiring.specs.declared.value.ValType.{ValType}
-use Rattle.lara_semiring.specs.declared.value.ValType.TheVariants.{Count}
-use Rattle.lara_semiring.specs.declared.value.Value.{Value}
-use Rattle.lara_semiring.specs.declared.value.Value.TheVariants as value
+-- The entries of a literal: whether one is whole, and its values. A literal that breaks a rule has some value too, which is
+-- never asked for.
+use Rattle.std.specs.Prelude.{Bool, ◌&&◌, ◌==◌, List, [], ◌∷◌, length}
 use Rattle.lara_syntax.specs.declared.ast.AstEntry.{AstEntry}
 use Rattle.lara_syntax.specs.declared.ast.AstLit.{AstLit}
-use Rattle.lara_syntax.specs.declared.ast.AstValue.{AstValue}
-use Rattle.lara_syntax.specs.declared.ast.AstValue.TheVariants.{Number}
+use Rattle.lara_syntax.specs.Literals.{key_value, row_value}
 use Rattle.lara_data.specs.declared.table_type.KeyCol.{KeyCol}
 use Rattle.lara_data.specs.declared.table_type.ValCol.{ValCol}
 use Rattle.lara_data.specs.KeyedTables.{Row}
@@ -19,15 +11,9 @@ use Rattle.lara_data.specs.Names.{Tuple}
 use Rattle.lara_data.specs.TableTypes.{Columns}
 use Rattle.lara_data.specs.Tables.{Entry}
 
--- the key value
-abbrev pub key_value : KeyType → AstValue → KeyVal
-key_value Nat (Number n) = key.Nat n
-key_value Nat other = key.Nat 0
-
--- the value in a row
-abbrev pub row_value : ValType → AstValue → Value
-row_value Count (Number n) = value.Count n
-row_value Count other = value.Count 0
+-- as many literals as columns
+abbrev pub is_whole : Columns → AstEntry → Bool
+is_whole ty e = length e.key == length ty.keys && length e.row == length ty.vals
 
 -- the key values, column by column
 unfoldable pub key_values : List KeyCol → List AstLit → Tuple

@@ -19,7 +19,8 @@ use Rattle.lara_syntax.specs.declared.ast.AstName.{AstName}
 use Rattle.lara_syntax.specs.declared.ast.AstOp.{AstOp}
 use Rattle.lara_syntax.specs.declared.ast.AstOp.TheVariants.{Load, Named, Literal, Join', Union', Agg'}
 use Rattle.lara_syntax.specs.declared.ast.AstType.{AstType}
-use Rattle.lara_types.specs.Literals.{is_key_lit, is_val_lit, is_in_range, is_whole}
+use Rattle.lara_syntax.specs.Literals.{is_key_lit, is_val_lit, is_key_in_range, is_val_in_range}
+use Rattle.lara_types.specs.LiteralValues.{is_whole}
 use Rattle.lara_types.specs.Rules.{Rule, rule}
 use Rattle.lara_types.specs.Written.{plain, names_of, columns}
 
@@ -74,14 +75,19 @@ unfoldable pub val_kind_rules : List ValCol → List AstLit → List Rule
 val_kind_rules (c ∷ cs) (l ∷ ls) = rule l.at TypesDiffer (is_val_lit c.ty l.value) ∷ val_kind_rules cs ls
 val_kind_rules cs ls = []
 
--- each number is in its range
-unfoldable pub range_rules : List AstLit → List Rule
-range_rules [] = []
-range_rules (l ∷ ls) = rule l.at NotInRange (is_in_range l.value) ∷ range_rules ls
+-- each literal is in the range of its key column
+unfoldable pub key_range_rules : List KeyCol → List AstLit → List Rule
+key_range_rules (c ∷ cs) (l ∷ ls) = rule l.at NotInRange (is_key_in_range c.ty l.value) ∷ key_range_rules cs ls
+key_range_rules cs ls = []
+
+-- each literal is in the range of its value column
+unfoldable pub val_range_rules : List ValCol → List AstLit → List Rule
+val_range_rules (c ∷ cs) (l ∷ ls) = rule l.at NotInRange (is_val_in_range c.ty l.value) ∷ val_range_rules cs ls
+val_range_rules cs ls = []
 
 -- an entry: as many literals as columns, then the kinds of all, then the ranges of all
 abbrev pub entry_rules : Columns → AstEntry → List Rule
-entry_rules ty e = rule e.at TypesDiffer (is_whole ty e) ∷ ((key_kind_rules ty.keys e.key ++ val_kind_rules ty.vals e.row) ++ (range_rules e.key ++ range_rules e.row))
+entry_rules ty e = rule e.at TypesDiffer (is_whole ty e) ∷ ((key_kind_rules ty.keys e.key ++ val_kind_rules ty.vals e.row) ++ (key_range_rules ty.keys e.key ++ val_range_rules ty.vals e.row))
 
 -- the entries, one after the other
 unfoldable pub entries_rules : Columns → List AstEntry → List Rule

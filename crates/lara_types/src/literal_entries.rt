@@ -1,54 +1,23 @@
 //! The entries of a literal: as many literals as columns, of their kinds and in their ranges. The rules are looked at before
 //! anything is made of an entry.
 ghost use Rattle.std.specs.Prelude.{◌≡◌, [], ◌++◌, ◌∷◌, length, map, true, false, IfOk, IfErr, IsOk, IsSome};
-ghost use Rattle.lara_key.specs.Keys.{key_holds_text};
 ghost use Rattle.lara_semiring.specs.Rows.{row_has};
-ghost use Rattle.lara_semiring.specs.ValueSemirings.{holds_text};
 ghost use Rattle.lara_data.specs.KeyedTables.{all_have};
 ghost use Rattle.lara_data.specs.TableTypes.{types};
 ghost use Rattle.lara_data.specs.Judgements.{Judges, NotMemory};
-ghost use Rattle.lara_types.specs.Literals.{is_key_lit, is_val_lit, is_in_range, is_whole};
-ghost use Rattle.lara_types.specs.LiteralValues.{key_value, row_value, key_values, row_values, entry_value};
-ghost use Rattle.lara_types.specs.NodeRules.{key_kind_rules, val_kind_rules, range_rules, entry_rules, entries_rules};
+ghost use Rattle.lara_types.specs.LiteralValues.{is_whole, key_values, row_values, entry_value};
+ghost use Rattle.lara_types.specs.NodeRules.{key_kind_rules, val_kind_rules, key_range_rules, val_range_rules, entry_rules, entries_rules};
 ghost use Rattle.lara_types.specs.Rules.{first_broken, by_rules};
 
 use crate::refuse::refusal;
 use lara_base::List;
 use lara_data::{Entry, KeyCol, Kind, ReadFault, Refusal, TableType, ValCol};
-use lara_key::{KeyType, KeyVal, Tuple};
-use lara_semiring::{Row, ValType, Value};
-use lara_syntax::{AstEntry, AstLit, AstValue};
+use lara_key::Tuple;
+use lara_semiring::Row;
+use lara_syntax::{
+    AstEntry, AstLit, is_key_in_range, is_key_lit, is_val_in_range, is_val_lit, key_of, value_of,
+};
 use std::alloc::{AllocError, Global};
-
-// Whether a literal is of the kind that a key column takes.
-fn is_key_lit(ty: KeyType, value: &AstValue) -> bool
-    ensures { result ≡ is_key_lit ty value.now }
-{
-    match (ty, value) {
-        (KeyType::Nat, AstValue::Number(_)) => true,
-        (KeyType::Nat, _) => false,
-    }
-}
-
-// Whether a literal is of the kind that a value column takes.
-fn is_val_lit(ty: ValType, value: &AstValue) -> bool
-    ensures { result ≡ is_val_lit ty value.now }
-{
-    match (ty, value) {
-        (ValType::Count, AstValue::Number(_)) => true,
-        (ValType::Count, _) => false,
-    }
-}
-
-// Whether a number is none that stands for all past the range.
-fn is_in_range(value: &AstValue) -> bool
-    ensures { result ≡ is_in_range value.now }
-{
-    match value {
-        AstValue::Number(n) => *n < u64::MAX,
-        _ => true,
-    }
-}
 
 // At the first literal of the wrong kind for its key column.
 #[tactic(auto, unfolding(crate::specs::Rules::first_broken, crate::specs::NodeRules::key_kind_rules))]
@@ -86,16 +55,37 @@ fn wrong_val(cols: &[ValCol], lits: &[AstLit]) -> Option<Refusal>
     }
 }
 
-// At the first number that is past its range.
-#[tactic(auto, unfolding(crate::specs::Rules::first_broken, crate::specs::NodeRules::range_rules))]
-fn past_range(lits: &[AstLit]) -> Option<Refusal>
-    ensures { result ≡ first_broken (range_rules lits.now) }
+// At the first literal that is past the range of its key column.
+#[tactic(auto, unfolding(crate::specs::Rules::first_broken, crate::specs::NodeRules::key_range_rules))]
+fn past_key(cols: &[KeyCol], lits: &[AstLit]) -> Option<Refusal>
+    ensures { result ≡ first_broken (key_range_rules cols.now lits.now) }
 {
+    let [col, cols @ ..] = cols else {
+        return None;
+    };
     let [lit, lits @ ..] = lits else {
         return None;
     };
-    if is_in_range(&lit.value) {
-        past_range(lits)
+    if is_key_in_range(col.ty, &lit.value) {
+        past_key(cols, lits)
+    } else {
+        Some(refusal(lit.at, Kind::NotInRange))
+    }
+}
+
+// At the first literal that is past the range of its value column.
+#[tactic(auto, unfolding(crate::specs::Rules::first_broken, crate::specs::NodeRules::val_range_rules))]
+fn past_val(cols: &[ValCol], lits: &[AstLit]) -> Option<Refusal>
+    ensures { result ≡ first_broken (val_range_rules cols.now lits.now) }
+{
+    let [col, cols @ ..] = cols else {
+        return None;
+    };
+    let [lit, lits @ ..] = lits else {
+        return None;
+    };
+    if is_val_in_range(col.ty, &lit.value) {
+        past_val(cols, lits)
     } else {
         Some(refusal(lit.at, Kind::NotInRange))
     }
@@ -112,14 +102,14 @@ fn wrong_kind(ty: &TableType, entry: &AstEntry) -> Option<Refusal>
     }
 }
 
-// At the first number that is past its range, in the key and then in the row.
+// At the first literal that is past its range, in the key and then in the row.
 #[tactic(auto, using(crate::specs::RuleLaws::sequence_rules))]
-fn past_ranges(entry: &AstEntry) -> Option<Refusal>
-    ensures { result ≡ first_broken (range_rules entry.now.key ++ range_rules entry.now.row) }
+fn past_range(ty: &TableType, entry: &AstEntry) -> Option<Refusal>
+    ensures { result ≡ first_broken (key_range_rules ty.now.keys entry.now.key ++ val_range_rules ty.now.vals entry.now.row) }
 {
-    match past_range(entry.key.as_slice()) {
+    match past_key(ty.keys.as_slice(), entry.key.as_slice()) {
         Some(refusal) => Some(refusal),
-        None => past_range(entry.row.as_slice()),
+        None => past_val(ty.vals.as_slice(), entry.row.as_slice()),
     }
 }
 
@@ -140,29 +130,7 @@ fn entry_refusal(ty: &TableType, entry: &AstEntry) -> Option<Refusal>
     }
     match wrong_kind(ty, entry) {
         Some(refusal) => Some(refusal),
-        None => past_ranges(entry),
-    }
-}
-
-// The key value of a literal; of one of another kind it is some value. Only a text takes memory.
-fn key_of(_alloc: Global, ty: KeyType, value: &AstValue) -> Result<KeyVal, AllocError>
-    ensures same { IfOk result (λ k. k ≡ key_value ty value.now) }
-    ensures exact { key_holds_text (key_value ty value.now) ≡ false → IsOk result }
-{
-    match (ty, value) {
-        (KeyType::Nat, AstValue::Number(n)) => Ok(KeyVal::Nat(*n)),
-        (KeyType::Nat, _) => Ok(KeyVal::Nat(0)),
-    }
-}
-
-// The value of a literal; of one of another kind it is some value. Only a text takes memory.
-fn value_of(_alloc: Global, ty: ValType, value: &AstValue) -> Result<Value, AllocError>
-    ensures same { IfOk result (λ v. v ≡ row_value ty value.now) }
-    ensures exact { holds_text (row_value ty value.now) ≡ false → IsOk result }
-{
-    match (ty, value) {
-        (ValType::Count, AstValue::Number(n)) => Ok(Value::Count(*n)),
-        (ValType::Count, _) => Ok(Value::Count(0)),
+        None => past_range(ty, entry),
     }
 }
 
