@@ -1,5 +1,5 @@
 -- Columns of keys, tuples of them, and their order.
-use Rattle.std.specs.Prelude.{◌≡◌, ℕ, ◌-◌, ◌^◌, Bool, true, false, ◌&&◌, nat_le, List, [], ◌∷◌, length, ◌<◌}
+use Rattle.std.specs.Prelude.{◌≡◌, ℕ, ◌-◌, ◌^◌, Bool, true, false, cond, ◌&&◌, nat_le, List, [], ◌∷◌, length, ◌<◌}
 use Rattle.std.proofs.Common.{refl, ap, arith, zero, suc, get_or}
 use Rattle.std.specs.declared.cmp.Ordering.{Ordering}
 use Rattle.std.specs.declared.cmp.Ordering.TheVariants.{Less, Equal, Greater}
@@ -48,12 +48,12 @@ has_key_type ty.Flag (key.Flag b) = true
 has_key_type t v = false
 
 -- a column is of no other type than its own
-pub has_key_type-only : (t : KeyType) (v : KeyVal) → has_key_type t v ≡ true → t ≡ key_type_of v
+pub has_key_type_is : (t : KeyType) (v : KeyVal) → has_key_type t v ≡ true → t ≡ key_type_of v
 unfolding has_key_type
-has_key_type-only ty.Nat (key.Nat n) h = refl
-has_key_type-only ty.Text (key.Text x) h = refl
-has_key_type-only ty.Flag (key.Flag b) h = refl
-has_key_type-only _ _ h = cc
+has_key_type_is ty.Nat (key.Nat n) h = refl
+has_key_type_is ty.Text (key.Text x) h = refl
+has_key_type_is ty.Flag (key.Flag b) h = refl
+has_key_type_is _ _ h = cc
 
 -- a tuple with one column of each type
 unfoldable pub tuple_has : List KeyType → List KeyVal → Bool
@@ -112,8 +112,7 @@ tuple_cmp = slice_cmp key_cmp
 key_rank : KeyVal → List ℕ
 key_rank (key.Nat a) = 0 ∷ a ∷ []
 key_rank (key.Text t) = 1 ∷ text_rank t
-key_rank (key.Flag false) = 2 ∷ 0 ∷ []
-key_rank (key.Flag true) = 2 ∷ 1 ∷ []
+key_rank (key.Flag b) = 2 ∷ cond b 1 0 ∷ []
 
 then_equal : (o : Ordering) → o ≡ ordering_then o Equal
 then_equal Less = refl
@@ -124,16 +123,12 @@ agrees : (x y : KeyVal) → key_cmp x y ≡ slice_cmp nat_cmp (key_rank x) (key_
 unfolding key_rank
 agrees (key.Nat a) (key.Nat b) = then_equal (nat_cmp a b)
 agrees (key.Nat a) (key.Text b) = refl
-agrees (key.Nat a) (key.Flag false) = refl
-agrees (key.Nat a) (key.Flag true) = refl
+agrees (key.Nat a) (key.Flag b) = refl
 agrees (key.Text a) (key.Nat b) = refl
 agrees (key.Text a) (key.Text b) = text_ranked.agrees a b
-agrees (key.Text a) (key.Flag false) = refl
-agrees (key.Text a) (key.Flag true) = refl
-agrees (key.Flag false) (key.Nat b) = refl
-agrees (key.Flag true) (key.Nat b) = refl
-agrees (key.Flag false) (key.Text b) = refl
-agrees (key.Flag true) (key.Text b) = refl
+agrees (key.Text a) (key.Flag b) = refl
+agrees (key.Flag a) (key.Nat b) = refl
+agrees (key.Flag a) (key.Text b) = refl
 agrees (key.Flag false) (key.Flag false) = refl
 agrees (key.Flag false) (key.Flag true) = refl
 agrees (key.Flag true) (key.Flag false) = refl
@@ -142,21 +137,10 @@ agrees (key.Flag true) (key.Flag true) = refl
 apart : (x y : KeyVal) → key_rank x ≡ key_rank y → x ≡ y
 unfolding key_rank
 apart (key.Nat a) (key.Nat b) e = ap key.Nat (cc)
-apart (key.Nat a) (key.Text b) e = cc
-apart (key.Nat a) (key.Flag false) e = cc
-apart (key.Nat a) (key.Flag true) e = cc
-apart (key.Text a) (key.Nat b) e = cc
 apart (key.Text a) (key.Text b) e = ap key.Text (text_ranked.apart a b (cc))
-apart (key.Text a) (key.Flag false) e = cc
-apart (key.Text a) (key.Flag true) e = cc
-apart (key.Flag false) (key.Nat b) e = cc
-apart (key.Flag true) (key.Nat b) e = cc
-apart (key.Flag false) (key.Text b) e = cc
-apart (key.Flag true) (key.Text b) e = cc
 apart (key.Flag false) (key.Flag false) e = refl
-apart (key.Flag false) (key.Flag true) e = cc
-apart (key.Flag true) (key.Flag false) e = cc
 apart (key.Flag true) (key.Flag true) e = refl
+apart _ _ e = cc
 
 key_ranked : IsRanked key_cmp key_rank
 key_ranked = record { agrees = agrees; apart = apart }
