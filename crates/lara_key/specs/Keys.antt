@@ -10,7 +10,7 @@ use Rattle.std.specs.FinMap.{IsAntisymmetric, slice_cmp-IsAntisymmetric}
 use Rattle.std.proofs.lemmas.Bool.{and_parts}
 use Rattle.std.proofs.lemmas.Cmp.{lists_total}
 use Rattle.lara_base.specs.Orders.{IsRanked, ranked_total, ranked_antisymmetric}
-use Rattle.lara_base.specs.Texts.{is_text, text_cmp, text_rank, text_ranked}
+use Rattle.lara_base.specs.Texts.{has_bytes, is_text, text_cmp, text_rank, text_ranked}
 use Rattle.lara_base.specs.declared.text.Text.TheVariants.{Within, Over}
 use Rattle.lara_key.specs.declared.key.KeyType.{KeyType}
 use Rattle.lara_key.specs.declared.key.KeyType.TheVariants as ty
@@ -87,9 +87,7 @@ key_is_over (key.Flag b) = false
 -- the column holds bytes of a text, so that a copy takes memory
 abbrev pub key_holds_text : KeyVal → Bool
 key_holds_text (key.Nat n) = false
-key_holds_text (key.Text (Within [])) = false
-key_holds_text (key.Text (Within (b ∷ bs))) = true
-key_holds_text (key.Text Over) = false
+key_holds_text (key.Text t) = has_bytes t
 key_holds_text (key.Flag b) = false
 
 -- columns of one type by their value, and of two types by the type: numbers, then texts, then flags
