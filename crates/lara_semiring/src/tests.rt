@@ -1,7 +1,8 @@
 //! The calls where there is memory, with sums and products worked out by hand.
 ghost use Rattle.std.specs.Prelude.{◌≡◌, ◌∷◌, [], ◌↔◌, true, IsTrue, IfOk};
 ghost use Rattle.lara_semiring.specs.Rows.{row_has};
-ghost use Rattle.lara_semiring.specs.declared.value.ValType.TheVariants.{Count};
+ghost use Rattle.lara_semiring.specs.Values.{has_type};
+ghost use Rattle.lara_semiring.specs.declared.value.ValType.TheVariants.{Count, Last, Path};
 
 use crate::{
     CountVal, FlagVal, LastVal, MaxMinVal, MinPlusVal, PathText, PathVal, Row, Semiring, Text,
@@ -13,9 +14,11 @@ use std::test::Fail;
 
 const OVER: u64 = u64::MAX;
 
+// The number of a count, a distance or a width.
 fn number(value: &Value) -> u64 {
     match value {
-        Value::Count(n) => *n,
+        Value::Count(n) | Value::MinPlus(n) | Value::MaxMin(n) => *n,
+        _ => 77,
     }
 }
 
@@ -240,6 +243,122 @@ fn values_of_a_type(rt: HostRuntime) {
     assert_eq!(rt; number(&zero(rt.alloc(), &ValType::Count)), 0);
     assert!(rt; is_over(&ValType::Count, &Value::Count(OVER)));
     assert!(rt; !is_over(&ValType::Count, &Value::Count(OVER - 1)));
+}
+
+// The sum and the product of two values of a type.
+fn of_type(alloc: Global, ty: &ValType, a: &Value, b: &Value) -> Result<(Value, Value), AllocError>
+    requires left { has_type ty.now a.now ≡ true }
+    requires right { has_type ty.now b.now ≡ true }
+{
+    Ok((plus(alloc, ty, a, b)?, times(alloc, ty, a, b)?))
+}
+
+#[tactic(auto, unfolding(crate::specs::Values::has_type))]
+fn of_distances(alloc: Global, a: u64, b: u64) -> Result<(u64, u64), AllocError> {
+    let (sum, product) = of_type(
+        alloc,
+        &ValType::MinPlus,
+        &Value::MinPlus(a),
+        &Value::MinPlus(b),
+    )?;
+    Ok((number(&sum), number(&product)))
+}
+
+#[tactic(auto, unfolding(crate::specs::Values::has_type))]
+fn of_widths(alloc: Global, a: u64, b: u64) -> Result<(u64, u64), AllocError> {
+    let (sum, product) = of_type(
+        alloc,
+        &ValType::MaxMin,
+        &Value::MaxMin(a),
+        &Value::MaxMin(b),
+    )?;
+    Ok((number(&sum), number(&product)))
+}
+
+fn is_set(value: &Value) -> bool {
+    matches!(value, Value::Flag(true))
+}
+
+#[tactic(auto, unfolding(crate::specs::Values::has_type))]
+fn of_flags(alloc: Global, a: bool, b: bool) -> Result<(bool, bool), AllocError> {
+    let (sum, product) = of_type(alloc, &ValType::Flag, &Value::Flag(a), &Value::Flag(b))?;
+    Ok((is_set(&sum), is_set(&product)))
+}
+
+#[tactic(auto, unfolding(crate::specs::Values::has_type))]
+fn last_value(alloc: Global, bytes: &[u8]) -> Result<Value, AllocError>
+    ensures { IfOk result (λ r. has_type Last r ≡ true) }
+{
+    let text = text_of(alloc, bytes)?;
+    text.known();
+    Ok(Value::Last(text))
+}
+
+fn is_last_value(value: &Value, bytes: &[u8]) -> bool {
+    match value {
+        Value::Last(text) => is_text(text, bytes),
+        _ => false,
+    }
+}
+
+// Whether the sum is the second and the product the first.
+fn is_later_value(alloc: Global, a: &[u8], b: &[u8]) -> Result<bool, AllocError> {
+    let first = last_value(alloc, a)?;
+    let second = last_value(alloc, b)?;
+    let (sum, product) = of_type(alloc, &ValType::Last, &first, &second)?;
+    Ok(is_last_value(&copy_of(alloc, &sum)?, b) && is_last_value(&product, a))
+}
+
+#[tactic(auto, unfolding(crate::specs::Values::has_type))]
+fn path_value(alloc: Global, bytes: &[u8]) -> Result<Value, AllocError>
+    ensures { IfOk result (λ r. has_type Path r ≡ true) }
+{
+    let path = path_of(alloc, bytes)?;
+    Semiring::known(&path);
+    Ok(Value::Path(path))
+}
+
+fn is_path_value(value: &Value, bytes: &[u8]) -> bool {
+    match value {
+        Value::Path(path) => is_path(path, bytes),
+        _ => false,
+    }
+}
+
+// Whether the sum and the product of two paths are these.
+fn are_path_values(
+    alloc: Global,
+    a: &[u8],
+    b: &[u8],
+    sum: &[u8],
+    product: &[u8],
+) -> Result<bool, AllocError> {
+    let first = path_value(alloc, a)?;
+    let second = path_value(alloc, b)?;
+    let (lesser, joined) = of_type(alloc, &ValType::Path, &first, &second)?;
+    Ok(is_path_value(&copy_of(alloc, &lesser)?, sum) && is_path_value(&joined, product))
+}
+
+#[test]
+fn each_type_adds_and_multiplies_as_it_does(rt: HostRuntime) -> Result<(), Fail> {
+    let alloc = rt.alloc();
+    assert_eq!(rt; of_distances(alloc, 7, 6)?, (6, 13));
+    assert_eq!(rt; of_distances(alloc, u64::MAX, 6)?, (6, u64::MAX));
+    assert_eq!(rt; of_widths(alloc, 7, 6)?, (7, 6));
+    assert_eq!(rt; of_flags(alloc, false, true)?, (true, false));
+    assert!(rt; is_later_value(alloc, b"ab", b"b")?);
+    assert!(rt; are_path_values(alloc, b"ab", b"c", b"c", b"abc")?);
+    Ok(())
+}
+
+#[test]
+fn each_type_has_its_zero(rt: HostRuntime) {
+    let alloc = rt.alloc();
+    assert_eq!(rt; number(&zero(alloc, &ValType::MinPlus)), u64::MAX);
+    assert_eq!(rt; number(&zero(alloc, &ValType::MaxMin)), 0);
+    assert!(rt; matches!(zero(alloc, &ValType::Flag), Value::Flag(false)));
+    assert!(rt; is_last_value(&zero(alloc, &ValType::Last), b""));
+    assert!(rt; matches!(zero(alloc, &ValType::Path), Value::Path(PathText::Absent)));
 }
 
 // The sum and the product.
