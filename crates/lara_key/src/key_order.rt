@@ -58,6 +58,12 @@ impl Ord for KeyVal {
     fn cmp(&self, other: &KeyVal) -> Ordering {
         match (self, other) {
             (KeyVal::Nat(a), KeyVal::Nat(b)) => a.cmp(b),
+            (KeyVal::Text(a), KeyVal::Text(b)) => a.cmp(b),
+            (KeyVal::Flag(a), KeyVal::Flag(b)) => a.cmp(b),
+            (KeyVal::Nat(_), _) => Ordering::Less,
+            (_, KeyVal::Nat(_)) => Ordering::Greater,
+            (KeyVal::Text(_), KeyVal::Flag(_)) => Ordering::Less,
+            (KeyVal::Flag(_), KeyVal::Text(_)) => Ordering::Greater,
         }
     }
 }
