@@ -1,10 +1,12 @@
 -- What is in the grammar is read.
-use Rattle.std.proofs.Common.{◌≡◌, ℕ, suc, ◌<◌, ◌≤◌, ◌+◌, List, [], ◌∷◌, ◌++◌, length, Option, Some, None, refl, sym, ap, subst, ◌∙◌, arith, append_assoc, Bool, true, false, cond, nat_lt}
+use Rattle.std.proofs.Common.{◌≡◌, ℕ, suc, ◌<◌, ◌≤◌, ◌+◌, List, [], ◌∷◌, ◌++◌, length, Option, Some, None, is_some, refl, sym, ap, subst, ◌∙◌, arith, append_assoc, Bool, true, false, cond, nat_lt}
 use Rattle.std.proofs.lemmas.List.{append-nil, length-append}
 use Rattle.std.proofs.lemmas.Bool.{lt-ltb}
 use Rattle.lara_data.specs.declared.refusal.Kind.TheVariants.{Unexpected, TooMany}
 use Rattle.lara_key.specs.declared.key.KeyType.{KeyType}
+use Rattle.lara_key.specs.declared.key.KeyType.TheVariants as key_type_of
 use Rattle.lara_semiring.specs.declared.value.ValType.{ValType}
+use Rattle.lara_semiring.specs.declared.value.ValType.TheVariants as val_type_of
 use Rattle.lara_syntax.specs.declared.item.Lexeme.{Lexeme}
 use Rattle.lara_syntax.specs.declared.item.Lexeme.TheVariants as lex
 use Rattle.lara_syntax.specs.declared.item.Keyword.TheVariants as key
@@ -18,6 +20,7 @@ use Rattle.lara_syntax.specs.declared.ast.AstValCol.{AstValCol}
 use Rattle.lara_syntax.specs.AstTypes.{AstColumns}
 use Rattle.lara_syntax.specs.declared.ast.AstLit.{AstLit}
 use Rattle.lara_syntax.specs.declared.ast.AstValue.{AstValue}
+use Rattle.lara_syntax.specs.declared.ast.AstValue.TheVariants as val
 use Rattle.lara_syntax.specs.declared.ast.AstEntry.{AstEntry}
 use Rattle.lara_syntax.specs.declared.ast.AstNode.{AstNode}
 use Rattle.lara_syntax.specs.declared.ast.AstOp.{AstOp}
@@ -29,8 +32,8 @@ use Rattle.lara_syntax.specs.Steps.{Items, Read, Reader, ◌>>=◌, give, refuse
 use Rattle.lara_syntax.specs.Reading as r
 use Rattle.lara_syntax.proofs.WordTextLaws.{same_sign-refl}
 use Rattle.lara_syntax.specs.Places.{node}
-use Rattle.lara_syntax.specs.Reading.{sign, sign_by, comma_by, Counted}
-use Rattle.lara_syntax.specs.Grammar.{Word, word, Mark, Named, IsLiteral, number, Lit, lit, KeyTyped, nat, ValTyped, count, Many, none, more, CommaThen, comma_then, Commas, commas, Maybe, nothing, just, KeyCol, key_col, ValCol, val_col, TypeOf, columns, Entry, entry, SemiEntry, semi_entry, SomeSemi, no_semi, semi, Entries, entries, Leaf, named, load, literal, Operand, leaf, inside, Table, join, union, agg, operand, SomeOrder, no_order, order, Statement, assign, print, Script}
+use Rattle.lara_syntax.specs.Reading.{sign, sign_by, next_as, taken_as, comma_by, Counted}
+use Rattle.lara_syntax.specs.Grammar.{Word, word, Mark, Named, literal_word, Lit, key_type_word, KeyTyped, val_type_word, ValTyped, Many, none, more, CommaThen, comma_then, Commas, commas, Maybe, nothing, just, KeyCol, key_col, ValCol, val_col, TypeOf, columns, Entry, entry, SemiEntry, semi_entry, SomeSemi, no_semi, semi, Entries, entries, Leaf, named, load, literal, Operand, leaf, inside, Table, join, union, agg, operand, SomeOrder, no_order, order, Statement, assign, print, Script}
 use Rattle.lara_syntax.proofs.Levels.{inside_rest}
 use Rattle.lara_syntax.proofs.Turns.{TakesOne, read_of, items-some, items-none}
 use Rattle.lara_syntax.proofs.RuleReaders.{comma_name-one, comma_key_col-one, comma_val_col-one, comma_lit-one, semi_entry-one, has_room, next_behind, tree_given, statements-some, statements-none}
@@ -59,20 +62,42 @@ pub name_reads : (x : AstName) (ts us : Items) → Named x ts us → r.name ts �
 unfolding r.name
 name_reads x ts us h = chosen r.name_by ts (Some (lex.Name x.name)) (read_of x us) (head_is _ x.at ts us h) (rw (skip_is _ x.at ts us h) refl)
 
-literal_is : (w : Lexeme) (v : AstValue) → IsLiteral w v → r.literal_of w ≡ Some v
-literal_is w v (number n) = refl
+-- a word that stands for something
+as_reads : {A B : Type 0} (make : ℕ → A → B) (f : Lexeme → Option A) (w : Lexeme) (x : A) (at : ℕ) (ts us : Items) → f w ≡ Some x → Word w at ts us → (peek >>= λ o. taken_as make (next_as f o)) ts ≡ read_of (make at x) us
+as_reads {A = A} make f w x at ts us e h = chosen (λ o. taken_as make (next_as f o)) ts (Some w) (read_of (make at x) us) (head_is w at ts us h) (ap (λ (o : Option A). taken_as make o ts) e ∙ rw (skip_is w at ts us h) refl)
+
+literal_is : (v : AstValue) → r.literal_of (literal_word v) ≡ Some v
+literal_is (val.Number n) = refl
+literal_is (val.Text content) = refl
+literal_is (val.Flag true) = refl
+literal_is (val.Flag false) = refl
+literal_is val.Inf = refl
+literal_is val.None = refl
 
 lit_reads : (x : AstLit) (ts us : Items) → Lit x ts us → r.lit ts ≡ read_of x us
 unfolding r.lit
-lit_reads x ts us (lit at w v a b l h) = chosen r.lit_by a (Some w) (read_of _ b) (head_is _ at a b h) (ap (λ (o : Option AstValue). r.lit_of o a) (literal_is w v l) ∙ rw (skip_is _ at a b h) refl)
+lit_reads x ts us h = as_reads r.lit_at r.literal_of (literal_word x.value) x.value x.at ts us (literal_is x.value) h
+
+key_type_is : (t : KeyType) → r.word_key_type (lex.Key (key_type_word t)) ≡ Some t
+key_type_is key_type_of.Nat = refl
+key_type_is key_type_of.Text = refl
+key_type_is key_type_of.Flag = refl
 
 key_type_reads : (x : KeyType) (ts us : Items) → KeyTyped x ts us → r.key_type ts ≡ read_of x us
 unfolding r.key_type
-key_type_reads x ts us (nat at a b h) = chosen r.key_type_by a (Some (lex.Key key.Nat)) (read_of _ b) (head_is _ at a b h) (rw (skip_is _ at a b h) refl)
+key_type_reads x ts us h = as_reads r.without_place r.word_key_type (lex.Key (key_type_word x)) x h.0 ts us (key_type_is x) h.1
+
+val_type_is : (t : ValType) → r.word_val_type (lex.Key (val_type_word t)) ≡ Some t
+val_type_is val_type_of.Count = refl
+val_type_is val_type_of.MinPlus = refl
+val_type_is val_type_of.MaxMin = refl
+val_type_is val_type_of.Flag = refl
+val_type_is val_type_of.Last = refl
+val_type_is val_type_of.Path = refl
 
 val_type_reads : (x : ValType) (ts us : Items) → ValTyped x ts us → r.val_type ts ≡ read_of x us
 unfolding r.val_type
-val_type_reads x ts us (count at a b h) = chosen r.val_type_by a (Some (lex.Key key.Count)) (read_of _ b) (head_is _ at a b h) (rw (skip_is _ at a b h) refl)
+val_type_reads x ts us h = as_reads r.without_place r.word_val_type (lex.Key (val_type_word x)) x h.0 ts us (val_type_is x) h.1
 
 -- ---- lists
 
@@ -188,27 +213,35 @@ lits_reads : (xs : List AstLit) (ts rest : Items) → Commas Lit xs ts rest → 
 unfolding r.lits r.comma_lit
 lits_reads xs ts rest h after = commas_reads Lit r.lit lit_reads comma_lit-one xs ts rest h after
 
-lits_head : (xs : List AstLit) (ts rest : Items) → Commas Lit xs ts rest → (w : Lexeme) × (v : AstValue) × IsLiteral w v × (head_word ts ≡ Some w)
-lits_head xs ts rest (commas x ys a b c (lit at w v a' b' l h) k) = (w, v, l, head_is _ at a' b' h)
+lits_head : (xs : List AstLit) (ts rest : Items) → Commas Lit xs ts rest → (v : AstValue) × (head_word ts ≡ Some (literal_word v))
+lits_head xs ts rest (commas x ys a b c h k) = (x.value, head_is _ x.at a b h)
+
+is_literal_word : (v : AstValue) → r.is_literal (Some (literal_word v)) ≡ true
+is_literal_word v = ap (λ (o : Option AstValue). is_some o) (literal_is v)
 
 some_lits_reads : (xs : List AstLit) (ts rest : Items) → Maybe (Commas Lit) xs ts rest → Next Colon rest → r.some_lits ts ≡ read_of xs rest
 unfolding r.some_lits
 some_lits_reads xs ts rest (nothing q) after = chosen r.some_lits_by q (Some (lex.Sign Colon)) (read_of [] q) after refl
 some_lits_reads xs ts rest (just ys a c h) after =
     let n = lits_head ys a c h in
-    chosen r.some_lits_by a (Some n.0) (read_of ys c) n.3 (ap (λ (o : Option AstValue). r.at_literal r.lits (give []) o a) (literal_is n.0 n.1 n.2) ∙ lits_reads ys a c h (next_no_comma (head_word c) Colon after tt))
+    chosen r.some_lits_by a (Some (literal_word n.0)) (read_of ys c) n.1 (ap (λ (b : Bool). cond b r.lits (give []) a) (is_literal_word n.0) ∙ lits_reads ys a c h (next_no_comma (head_word c) Colon after tt))
 
 pub entry_reads : (x : AstEntry) (ts us : Items) → Entry x ts us → NoComma (head_word us) → r.entry ts ≡ read_of x us
 unfolding r.entry
 entry_reads x ts us (entry c ks row a b d e h k l) after = rw (some_lits_reads ks a b h (head_is _ c b d k), sign_reads Colon c b d k, lits_reads row d e l after) refl
 
-entry_at : (w : Lexeme) (v : AstValue) (ts : Items) → IsLiteral w v → r.entry_here_by (Some w) ts ≡ r.an_entry ts
-entry_at w v ts (number n) = refl
+entry_at : (v : AstValue) (ts : Items) → r.entry_here_by (Some (literal_word v)) ts ≡ r.an_entry ts
+entry_at (val.Number n) ts = refl
+entry_at (val.Text content) ts = refl
+entry_at (val.Flag true) ts = refl
+entry_at (val.Flag false) ts = refl
+entry_at val.Inf ts = refl
+entry_at val.None ts = refl
 
 -- an entry begins with a literal or with `:`
 entry_begins : (x : AstEntry) (ts us : Items) → Entry x ts us → (y : Read (Option AstEntry)) → ((w : Option Lexeme) → r.entry_here_by w ts ≡ (r.entry >>= λ e. give (Some e)) ts → head_word ts ≡ w → (r.entry_here_by (head_word ts) ts ≡ y)) → r.entry_here_by (head_word ts) ts ≡ y
 entry_begins x ts us (entry c ks row a b d e (nothing q) k l) y f = f (Some (lex.Sign Colon)) refl (head_is _ c b d k)
-entry_begins x ts us (entry c ks row a b d e (just ys a' c' h) k l) y f = let n = lits_head ys a' c' h in f (Some n.0) (entry_at n.0 n.1 ts n.2) n.3
+entry_begins x ts us (entry c ks row a b d e (just ys a' c' h) k l) y f = let n = lits_head ys a' c' h in f (Some (literal_word n.0)) (entry_at n.0 ts) n.1
 
 pub entry_here_reads : (x : AstEntry) (ts us : Items) → Entry x ts us → NoComma (head_word us) → r.entry_here ts ≡ read_of (Some x) us
 unfolding r.entry_here

@@ -9,7 +9,6 @@ use Rattle.lara_data.specs.declared.refusal.Kind.TheVariants.{Unexpected}
 use Rattle.lara_syntax.specs.declared.fault.Stop.{Stop}
 use Rattle.lara_syntax.specs.declared.fault.Fault.TheVariants as faults
 use Rattle.lara_syntax.specs.declared.ast.AstEntry.{AstEntry}
-use Rattle.lara_syntax.specs.declared.ast.AstValue.{AstValue}
 use Rattle.lara_syntax.specs.Steps.{Items, Read, Reader, ◌>>=◌, give, refuse, peek, skip, items_from, head_word}
 use Rattle.lara_syntax.specs.Reading as r
 use Rattle.lara_syntax.specs.FixedWords.{same_sign}
@@ -76,33 +75,21 @@ pub name-plain : Plain r.name
 unfolding r.name
 name-plain = plain_choice r.name_by name_by-plain
 
-key_type_by-plain : (w : Option Lexeme) → Plain (r.key_type_by w)
-key_type_by-plain (Some (lex.Key key.Nat)) = plain_bind skip _ plain_skip (λ at. plain_give _)
-key_type_by-plain w = plain_refuse
+taken_as-plain : {A B : Type 0} (make : ℕ → A → B) (x : Option A) → Plain (r.taken_as make x)
+taken_as-plain make (Some x) = plain_bind skip _ plain_skip (λ at. plain_give _)
+taken_as-plain make None = plain_refuse
 
 key_type-plain : Plain r.key_type
 unfolding r.key_type
-key_type-plain = plain_choice r.key_type_by key_type_by-plain
-
-val_type_by-plain : (w : Option Lexeme) → Plain (r.val_type_by w)
-val_type_by-plain (Some (lex.Key key.Count)) = plain_bind skip _ plain_skip (λ at. plain_give _)
-val_type_by-plain w = plain_refuse
+key_type-plain = plain_choice r.key_type_by (λ w. taken_as-plain r.without_place (r.next_as r.word_key_type w))
 
 val_type-plain : Plain r.val_type
 unfolding r.val_type
-val_type-plain = plain_choice r.val_type_by val_type_by-plain
-
-lit_of-plain : (v : Option AstValue) → Plain (r.lit_of v)
-lit_of-plain (Some v) = plain_bind skip _ plain_skip (λ at. plain_give _)
-lit_of-plain None = plain_refuse
+val_type-plain = plain_choice r.val_type_by (λ w. taken_as-plain r.without_place (r.next_as r.word_val_type w))
 
 lit-plain : Plain r.lit
 unfolding r.lit
-lit-plain = plain_choice r.lit_by (λ w. lit_of-plain (r.next_literal w))
-
-at_literal-plain : {A : Type 0} (p q : Reader A) → Plain p → Plain q → (v : Option AstValue) → Plain (r.at_literal p q v)
-at_literal-plain p q pp pq (Some v) = pp
-at_literal-plain p q pp pq None = pq
+lit-plain = plain_choice r.lit_by (λ w. taken_as-plain r.lit_at (r.next_as r.literal_of w))
 
 comma_by-plain : {A : Type 0} (p : Reader A) → Plain p → (w : Option Lexeme) → Plain (r.comma_by p w)
 comma_by-plain p pp (Some (lex.Sign Comma)) = plain_bind skip (λ at. p >>= λ x. give (Some x)) plain_skip (λ at. plain_bind p (λ x. give (Some x)) pp (λ x. plain_give (Some x)))
@@ -150,7 +137,7 @@ unfolding r.lits r.comma_lit
 lits-plain = commas-plain r.lit lit-plain comma_lit-one
 
 some_lits_by-plain : (w : Option Lexeme) → Plain (r.some_lits_by w)
-some_lits_by-plain w = at_literal-plain r.lits (give []) lits-plain (plain_give []) (r.next_literal w)
+some_lits_by-plain w = plain_cond (r.is_literal w) r.lits (give []) lits-plain (plain_give [])
 
 some_lits-plain : Plain r.some_lits
 unfolding r.some_lits
@@ -165,7 +152,7 @@ an_entry-plain = plain_bind r.entry _ entry-plain (λ x. plain_give _)
 
 entry_here_by-plain : (w : Option Lexeme) → Plain (r.entry_here_by w)
 entry_here_by-plain (Some (lex.Sign Colon)) = an_entry-plain
-entry_here_by-plain w = at_literal-plain r.an_entry (give None) an_entry-plain (plain_give None) (r.next_literal w)
+entry_here_by-plain w = plain_cond (r.is_literal w) r.an_entry (give None) an_entry-plain (plain_give None)
 
 entry_here-plain : Plain r.entry_here
 unfolding r.entry_here

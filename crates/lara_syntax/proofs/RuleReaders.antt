@@ -10,7 +10,6 @@ use Rattle.lara_syntax.specs.declared.fault.Fault.{Fault}
 use Rattle.lara_syntax.specs.declared.ast.Ast.{Ast}
 use Rattle.lara_syntax.specs.declared.ast.AstName.{AstName}
 use Rattle.lara_syntax.specs.declared.ast.AstEntry.{AstEntry}
-use Rattle.lara_syntax.specs.declared.ast.AstValue.{AstValue}
 use Rattle.lara_syntax.specs.declared.ast.AstNode.{AstNode}
 use Rattle.lara_syntax.specs.declared.ast.AstOp.{AstOp}
 use Rattle.lara_syntax.specs.declared.ast.AstOp.TheVariants as op
@@ -20,7 +19,7 @@ use Rattle.std.proofs.lemmas.List.{length-append}
 use Rattle.lara_syntax.specs.Limits.{Limits, none_counted, one_operator}
 use Rattle.lara_syntax.specs.declared.count.Count.{Count}
 use Rattle.lara_syntax.specs.Steps.{Items, Reader, ◌>>=◌, give, refuse, peek, skip, items_from, head_word, Fails}
-use Rattle.lara_syntax.specs.Reading.{sign, sign_by, name, name_by, key_type, key_type_by, val_type, val_type_by, next_literal, at_literal, lit_of, lit, lit_by, comma_by, comma_then, comma_name, some_names, some_names_by, key_col, comma_key_col, some_key_cols, some_key_cols_by, val_col, comma_val_col, val_cols, table_type, comma_lit, lits, some_lits, some_lits_by, entry, an_entry, entry_here, entry_here_by, semi_entry, semi_entry_by, entries_from, some_entries, leaf, leaf_by, Counted, operand_by, operand_with, by_word, by_word_by, operator_word, two_by, agg_by, table_by, table_with, inside, operand, table, some_order, some_order_by, statement, statement_by, no_room, next_by, next_statement, statements, tree_of, script}
+use Rattle.lara_syntax.specs.Reading.{sign, sign_by, name, name_by, key_type, key_type_by, val_type, val_type_by, word_key_type, word_val_type, next_as, taken_as, without_place, literal_of, is_literal, lit, lit_at, lit_by, comma_by, comma_then, comma_name, some_names, some_names_by, key_col, comma_key_col, some_key_cols, some_key_cols_by, val_col, comma_val_col, val_cols, table_type, comma_lit, lits, some_lits, some_lits_by, entry, an_entry, entry_here, entry_here_by, semi_entry, semi_entry_by, entries_from, some_entries, leaf, leaf_by, Counted, operand_by, operand_with, by_word, by_word_by, operator_word, two_by, agg_by, table_by, table_with, inside, operand, table, some_order, some_order_by, statement, statement_by, no_room, next_by, next_statement, statements, tree_of, script}
 use Rattle.lara_syntax.proofs.Levels.{inside_rest}
 use Rattle.lara_syntax.proofs.Turns.{TakesOne, read_of, err_ok, none_some, rest_is, list-some, list-none, list-fail}
 use Rattle.lara_syntax.proofs.Readers.{IsReader, reads_bind, reads_give, reads_refuse, reads_peek, reads_skip, reads_items, reads_list, skip_shortens, bind_ok}
@@ -47,33 +46,21 @@ pub name-reads : IsReader name
 unfolding name
 name-reads = reads_bind peek name_by reads_peek name_by-reads
 
-key_type_by-reads : (w : Option Lexeme) → IsReader (key_type_by w)
-key_type_by-reads (Some (lex.Key key.Nat)) = reads_bind _ _ reads_skip (λ at. reads_give _)
-key_type_by-reads w = reads_refuse Unexpected
+taken_as-reads : {A B : Type 0} (make : ℕ → A → B) (x : Option A) → IsReader (taken_as make x)
+taken_as-reads make (Some x) = reads_bind _ _ reads_skip (λ at. reads_give _)
+taken_as-reads make None = reads_refuse Unexpected
 
 pub key_type-reads : IsReader key_type
 unfolding key_type
-key_type-reads = reads_bind peek key_type_by reads_peek key_type_by-reads
-
-val_type_by-reads : (w : Option Lexeme) → IsReader (val_type_by w)
-val_type_by-reads (Some (lex.Key key.Count)) = reads_bind _ _ reads_skip (λ at. reads_give _)
-val_type_by-reads w = reads_refuse Unexpected
+key_type-reads = reads_bind peek key_type_by reads_peek (λ w. taken_as-reads without_place (next_as word_key_type w))
 
 pub val_type-reads : IsReader val_type
 unfolding val_type
-val_type-reads = reads_bind peek val_type_by reads_peek val_type_by-reads
-
-lit_of-reads : (v : Option AstValue) → IsReader (lit_of v)
-lit_of-reads (Some v) = reads_bind _ _ reads_skip (λ at. reads_give _)
-lit_of-reads None = reads_refuse Unexpected
+val_type-reads = reads_bind peek val_type_by reads_peek (λ w. taken_as-reads without_place (next_as word_val_type w))
 
 pub lit-reads : IsReader lit
 unfolding lit
-lit-reads = reads_bind peek lit_by reads_peek (λ w. lit_of-reads (next_literal w))
-
-at_literal-reads : {A : Type 0} (p q : Reader A) → IsReader p → IsReader q → (v : Option AstValue) → IsReader (at_literal p q v)
-at_literal-reads p q ip iq (Some v) = ip
-at_literal-reads p q ip iq None = iq
+lit-reads = reads_bind peek lit_by reads_peek (λ w. taken_as-reads lit_at (next_as literal_of w))
 
 -- ---- lists
 
@@ -166,7 +153,7 @@ unfolding lits
 lits-reads = reads_bind lit (λ x. items_from comma_lit (x ∷ [])) lit-reads (λ x. reads_items comma_lit comma_lit-one comma_lit-reads (x ∷ []))
 
 some_lits_by-reads : (w : Option Lexeme) → IsReader (some_lits_by w)
-some_lits_by-reads w = at_literal-reads lits (give []) lits-reads (reads_give []) (next_literal w)
+some_lits_by-reads w = reads_cond (is_literal w) lits (give []) lits-reads (reads_give [])
 
 pub some_lits-reads : IsReader some_lits
 unfolding some_lits
@@ -181,7 +168,7 @@ an_entry-reads = reads_bind _ _ entry-reads (λ x. reads_give _)
 
 entry_here_by-reads : (w : Option Lexeme) → IsReader (entry_here_by w)
 entry_here_by-reads (Some (lex.Sign Colon)) = an_entry-reads
-entry_here_by-reads w = at_literal-reads an_entry (give None) an_entry-reads (reads_give None) (next_literal w)
+entry_here_by-reads w = reads_cond (is_literal w) an_entry (give None) an_entry-reads (reads_give None)
 
 pub entry_here-reads : IsReader entry_here
 unfolding entry_here

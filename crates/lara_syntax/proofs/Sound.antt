@@ -12,7 +12,6 @@ use Rattle.lara_syntax.specs.declared.ast.AstBy.{AstBy}
 use Rattle.lara_syntax.specs.declared.ast.AstKeyCol.{AstKeyCol}
 use Rattle.lara_syntax.specs.declared.ast.AstValCol.{AstValCol}
 use Rattle.lara_syntax.specs.declared.ast.AstLit.{AstLit}
-use Rattle.lara_syntax.specs.declared.ast.AstValue.{AstValue}
 use Rattle.lara_syntax.specs.declared.ast.AstEntry.{AstEntry}
 use Rattle.lara_syntax.specs.declared.ast.AstNode.{AstNode}
 use Rattle.lara_syntax.specs.declared.ast.AstOp.{AstOp}
@@ -98,13 +97,13 @@ lits_sound : Sound (Commas Lit) r.lits
 unfolding r.lits r.comma_lit
 lits_sound ts xs u e = commas_sound Lit r.lit lit_sound comma_lit-one ts xs u e
 
-some_lits_when : (o : Option AstValue) (ts : Items) (xs : List AstLit) (u : Items) → r.at_literal r.lits (give []) o ts ≡ read_of xs u → Maybe (Commas Lit) xs ts u
-some_lits_when (Some v) ts xs u e = just xs ts u (lits_sound ts xs u e)
-some_lits_when None ts xs u e = absent (Commas Lit) ts xs u e
+some_lits_when : (here : Bool) (ts : Items) (xs : List AstLit) (u : Items) → cond here r.lits (give []) ts ≡ read_of xs u → Maybe (Commas Lit) xs ts u
+some_lits_when true ts xs u e = just xs ts u (lits_sound ts xs u e)
+some_lits_when false ts xs u e = absent (Commas Lit) ts xs u e
 
 some_lits_sound : Sound (Maybe (Commas Lit)) r.some_lits
 unfolding r.some_lits
-some_lits_sound ts xs u e = some_lits_when (r.next_literal (head_word ts)) ts xs u e
+some_lits_sound ts xs u e = some_lits_when (r.is_literal (head_word ts)) ts xs u e
 
 entry_sound : Sound Entry r.entry
 unfolding r.entry
@@ -114,25 +113,25 @@ entry_sound ts x u e =
     let c = bind_ok (r.lits b.1) (λ row. give (record { at = first_at a.0 b.0; key = a.0; row = row })) (x, u) b.3 in
     give_to (λ y q. Entry y ts q) (record { at = first_at a.0 b.0; key = a.0; row = c.0 }) c.1 x u c.3 (entry b.0 a.0 c.0 ts a.1 b.1 c.1 (some_lits_sound ts a.0 a.1 a.2) (sign_sound Colon a.1 b.0 b.1 b.2) (lits_sound b.1 c.0 c.1 c.2))
 
-entry_at_some : (o : Option AstValue) (ts : Items) (x : AstEntry) (u : Items) → r.at_literal r.an_entry (give None) o ts ≡ read_of (Some x) u → Entry x ts u
-entry_at_some (Some v) ts x u e = entry_sound ts x u (read_some (r.entry ts) x u e)
-entry_at_some None ts x u e = absurd (none_some ts u x e)
+entry_at_some : (here : Bool) (ts : Items) (x : AstEntry) (u : Items) → cond here r.an_entry (give None) ts ≡ read_of (Some x) u → Entry x ts u
+entry_at_some true ts x u e = entry_sound ts x u (read_some (r.entry ts) x u e)
+entry_at_some false ts x u e = absurd (none_some ts u x e)
 
 entry_here_some : (o : Option Lexeme) (ts : Items) (x : AstEntry) (u : Items) → r.entry_here_by o ts ≡ read_of (Some x) u → Entry x ts u
 entry_here_some (Some (lex.Sign Colon)) ts x u e = entry_sound ts x u (read_some (r.entry ts) x u e)
-entry_here_some w ts x u e = entry_at_some (r.next_literal w) ts x u e
+entry_here_some w ts x u e = entry_at_some (r.is_literal w) ts x u e
 
 entry_here_sound : (ts : Items) (x : AstEntry) (u : Items) → r.entry_here ts ≡ read_of (Some x) u → Entry x ts u
 unfolding r.entry_here
 entry_here_sound ts x u e = entry_here_some (head_word ts) ts x u e
 
-entry_at_none : (o : Option AstValue) (ts : Items) (u : Items) → r.at_literal r.an_entry (give None) o ts ≡ read_of None u → ts ≡ u
-entry_at_none (Some v) ts u e = absurd (some_none (r.entry ts) u e)
-entry_at_none None ts u e = rest_is {A = Option AstEntry} None ts None u e
+entry_at_none : (here : Bool) (ts : Items) (u : Items) → cond here r.an_entry (give None) ts ≡ read_of None u → ts ≡ u
+entry_at_none true ts u e = absurd (some_none (r.entry ts) u e)
+entry_at_none false ts u e = rest_is {A = Option AstEntry} None ts None u e
 
 entry_none_by : (o : Option Lexeme) (ts : Items) (u : Items) → r.entry_here_by o ts ≡ read_of None u → ts ≡ u
 entry_none_by (Some (lex.Sign Colon)) ts u e = absurd (some_none (r.entry ts) u e)
-entry_none_by w ts u e = entry_at_none (r.next_literal w) ts u e
+entry_none_by w ts u e = entry_at_none (r.is_literal w) ts u e
 
 entry_here_none : (ts : Items) (u : Items) → r.entry_here ts ≡ read_of None u → ts ≡ u
 unfolding r.entry_here

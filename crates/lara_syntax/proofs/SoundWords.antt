@@ -17,8 +17,8 @@ use Rattle.lara_syntax.specs.declared.ast.AstValue.{AstValue}
 use Rattle.lara_syntax.specs.declared.ast.AstValue.TheVariants as val
 use Rattle.lara_syntax.specs.Steps.{Items, Read, Reader, onward, ◌>>=◌, give, refuse, skip, turns, turns_within, turn, behind, list_from, items_from, head_word}
 use Rattle.lara_syntax.specs.Reading as r
-use Rattle.lara_syntax.specs.Reading.{sign, sign_by, comma_by}
-use Rattle.lara_syntax.specs.Grammar.{Word, word, Mark, Named, IsLiteral, number, Lit, lit, KeyTyped, nat, ValTyped, count, Many, none, more, CommaThen, comma_then, Commas, commas, Maybe, nothing}
+use Rattle.lara_syntax.specs.Reading.{sign, sign_by, next_as, taken_as, comma_by}
+use Rattle.lara_syntax.specs.Grammar.{Word, word, Mark, Named, literal_word, Lit, key_type_word, KeyTyped, val_type_word, ValTyped, Many, none, more, CommaThen, comma_then, Commas, commas, Maybe, nothing}
 use Rattle.lara_syntax.proofs.Turns.{TakesOne, read_of, pair_is, value_is, rest_is, err_ok, none_some, list_step}
 use Rattle.lara_syntax.proofs.Readers.{bind_ok}
 use Rattle.lara_syntax.specs.FixedWords.{same_sign}
@@ -80,43 +80,66 @@ pub name_sound : Sound Named r.name
 unfolding r.name
 name_sound ts x u e = name_when (head_word ts) ts x u refl e
 
-is_literal : (w : Lexeme) (v : AstValue) → r.literal_of w ≡ Some v → IsLiteral w v
-is_literal (lex.Number n) v e = let q : val.Number n ≡ v = cc in subst (λ (z : AstValue). IsLiteral (lex.Number n) z) q (number n)
-is_literal w v e = absurd cc
+-- a word that stands for x, and what is made of its place and that
+pub record TakenAs {A B : Type 0} (make : ℕ → A → B) (f : Lexeme → Option A) (ts : Items) (y : B) (u : Items) : Type 0 where
+  pub lexeme : Lexeme
+  pub at : ℕ
+  pub x : A
+  pub stands : f lexeme ≡ Some x
+  pub made : make at x ≡ y
+  pub here : Word lexeme at ts u
 
-lit_taken : (w : Lexeme) (o : Option AstValue) (ts : Items) (x : AstLit) (u : Items) → r.literal_of w ≡ o → head_word ts ≡ Some w → r.lit_of o ts ≡ read_of x u → Lit x ts u
-lit_taken w (Some v) ts x u l h e =
-    let a = bind_ok (skip ts) (λ at. give (record { at = at; value = v })) (x, u) e in
-    give_to (λ y q. Lit y ts q) (record { at = a.0; value = v }) a.1 x u a.3 (lit a.0 w v ts a.1 (is_literal w v l) (word_taken w ts a.0 a.1 h a.2))
-lit_taken w None ts x u l h e = absurd (err_ok {A = AstLit} _ (x, u) e)
+as_taken : {A B : Type 0} (make : ℕ → A → B) (f : Lexeme → Option A) (w : Lexeme) (o : Option A) (ts : Items) (y : B) (u : Items) → f w ≡ o → head_word ts ≡ Some w → taken_as make o ts ≡ read_of y u → TakenAs make f ts y u
+as_taken make f w (Some x) ts y u l h e =
+    let a = bind_ok (skip ts) (λ at. give (make at x)) (y, u) e in
+    record { lexeme = w; at = a.0; x = x; stands = l; made = value_is (make a.0 x) a.1 y u a.3; here = subst (λ (q : Items). Word w a.0 ts q) (rest_is (make a.0 x) a.1 y u a.3) (word_taken w ts a.0 a.1 h a.2) }
+as_taken {B = B} make f w None ts y u l h e = absurd (err_ok {A = B} _ (y, u) e)
 
-pub lit_when : (o : Option Lexeme) (ts : Items) (x : AstLit) (u : Items) → head_word ts ≡ o → r.lit_by o ts ≡ read_of x u → Lit x ts u
-lit_when None ts x u h e = absurd (err_ok {A = AstLit} _ (x, u) e)
-lit_when (Some w) ts x u h e = lit_taken w (r.literal_of w) ts x u refl h e
+as_when : {A B : Type 0} (make : ℕ → A → B) (f : Lexeme → Option A) (o : Option Lexeme) (ts : Items) (y : B) (u : Items) → head_word ts ≡ o → taken_as make (next_as f o) ts ≡ read_of y u → TakenAs make f ts y u
+as_when {B = B} make f None ts y u h e = absurd (err_ok {A = B} _ (y, u) e)
+as_when make f (Some w) ts y u h e = as_taken make f w (f w) ts y u refl h e
+
+literal_word_is : (w : Lexeme) (v : AstValue) → r.literal_of w ≡ Some v → w ≡ literal_word v
+literal_word_is (lex.Number n) v e = ap literal_word (some_is (val.Number n) v e)
+literal_word_is (lex.Text content) v e = ap literal_word (some_is (val.Text content) v e)
+literal_word_is (lex.Key key.True) v e = ap literal_word (some_is (val.Flag true) v e)
+literal_word_is (lex.Key key.False) v e = ap literal_word (some_is (val.Flag false) v e)
+literal_word_is (lex.Key key.Inf) v e = ap literal_word (some_is val.Inf v e)
+literal_word_is (lex.Key key.None) v e = ap literal_word (some_is val.None v e)
+literal_word_is w v e = absurd cc
 
 pub lit_sound : Sound Lit r.lit
 unfolding r.lit
-lit_sound ts x u e = lit_when (head_word ts) ts x u refl e
+lit_sound ts x u e =
+    let t = as_when r.lit_at r.literal_of (head_word ts) ts x u refl e in
+    subst (λ (y : AstLit). Lit y ts u) t.made (subst (λ (w : Lexeme). Word w t.at ts u) (literal_word_is t.lexeme t.x t.stands) t.here)
 
-pub key_type_when : (o : Option Lexeme) (ts : Items) (x : KeyType) (u : Items) → head_word ts ≡ o → r.key_type_by o ts ≡ read_of x u → KeyTyped x ts u
-key_type_when (Some (lex.Key key.Nat)) ts x u h e =
-    let a = bind_ok (skip ts) (λ at. give key_type_of.Nat) (x, u) e in
-    give_to (λ y q. KeyTyped y ts q) key_type_of.Nat a.1 x u a.3 (nat a.0 ts a.1 (word_taken (lex.Key key.Nat) ts a.0 a.1 h a.2))
-key_type_when w ts x u h e = absurd (err_ok {A = KeyType} _ (x, u) e)
+key_type_word_is : (w : Lexeme) (t : KeyType) → r.word_key_type w ≡ Some t → w ≡ lex.Key (key_type_word t)
+key_type_word_is (lex.Key key.Nat) t e = ap (λ (q : KeyType). lex.Key (key_type_word q)) (some_is key_type_of.Nat t e)
+key_type_word_is (lex.Key key.Text) t e = ap (λ (q : KeyType). lex.Key (key_type_word q)) (some_is key_type_of.Text t e)
+key_type_word_is (lex.Key key.Flag) t e = ap (λ (q : KeyType). lex.Key (key_type_word q)) (some_is key_type_of.Flag t e)
+key_type_word_is w t e = absurd cc
 
 pub key_type_sound : Sound KeyTyped r.key_type
 unfolding r.key_type
-key_type_sound ts x u e = key_type_when (head_word ts) ts x u refl e
+key_type_sound ts x u e =
+    let t = as_when r.without_place r.word_key_type (head_word ts) ts x u refl e in
+    subst (λ (y : KeyType). KeyTyped y ts u) t.made (t.at, subst (λ (w : Lexeme). Word w t.at ts u) (key_type_word_is t.lexeme t.x t.stands) t.here)
 
-pub val_type_when : (o : Option Lexeme) (ts : Items) (x : ValType) (u : Items) → head_word ts ≡ o → r.val_type_by o ts ≡ read_of x u → ValTyped x ts u
-val_type_when (Some (lex.Key key.Count)) ts x u h e =
-    let a = bind_ok (skip ts) (λ at. give val_type_of.Count) (x, u) e in
-    give_to (λ y q. ValTyped y ts q) val_type_of.Count a.1 x u a.3 (count a.0 ts a.1 (word_taken (lex.Key key.Count) ts a.0 a.1 h a.2))
-val_type_when w ts x u h e = absurd (err_ok {A = ValType} _ (x, u) e)
+val_type_word_is : (w : Lexeme) (t : ValType) → r.word_val_type w ≡ Some t → w ≡ lex.Key (val_type_word t)
+val_type_word_is (lex.Key key.Count) t e = ap (λ (q : ValType). lex.Key (val_type_word q)) (some_is val_type_of.Count t e)
+val_type_word_is (lex.Key key.MinPlus) t e = ap (λ (q : ValType). lex.Key (val_type_word q)) (some_is val_type_of.MinPlus t e)
+val_type_word_is (lex.Key key.MaxMin) t e = ap (λ (q : ValType). lex.Key (val_type_word q)) (some_is val_type_of.MaxMin t e)
+val_type_word_is (lex.Key key.Flag) t e = ap (λ (q : ValType). lex.Key (val_type_word q)) (some_is val_type_of.Flag t e)
+val_type_word_is (lex.Key key.Last) t e = ap (λ (q : ValType). lex.Key (val_type_word q)) (some_is val_type_of.Last t e)
+val_type_word_is (lex.Key key.Path) t e = ap (λ (q : ValType). lex.Key (val_type_word q)) (some_is val_type_of.Path t e)
+val_type_word_is w t e = absurd cc
 
 pub val_type_sound : Sound ValTyped r.val_type
 unfolding r.val_type
-val_type_sound ts x u e = val_type_when (head_word ts) ts x u refl e
+val_type_sound ts x u e =
+    let t = as_when r.without_place r.word_val_type (head_word ts) ts x u refl e in
+    subst (λ (y : ValType). ValTyped y ts u) t.made (t.at, subst (λ (w : Lexeme). Word w t.at ts u) (val_type_word_is t.lexeme t.x t.stands) t.here)
 
 -- ---- lists
 

@@ -1,5 +1,5 @@
 -- What stands before a refused word can go on: names, columns, entries and leaves.
-use Rattle.std.proofs.Common.{◌≡◌, ◌<◌, ℕ, List, [], ◌∷◌, length, Option, Some, None, refl, sym, ap, subst, arith}
+use Rattle.std.proofs.Common.{◌≡◌, ◌<◌, ℕ, Bool, true, false, cond, List, [], ◌∷◌, length, Option, Some, None, refl, sym, ap, subst, arith}
 use Rattle.lara_syntax.specs.declared.item.Lexeme.{Lexeme}
 use Rattle.lara_syntax.specs.declared.item.Lexeme.TheVariants as lex
 use Rattle.lara_syntax.specs.declared.item.Keyword.TheVariants as key
@@ -9,7 +9,6 @@ use Rattle.lara_data.specs.declared.refusal.Kind.TheVariants.{Unexpected}
 use Rattle.lara_syntax.specs.declared.ast.AstName.{AstName}
 use Rattle.lara_syntax.specs.declared.ast.AstKeyCol.{AstKeyCol}
 use Rattle.lara_syntax.specs.declared.ast.AstLit.{AstLit}
-use Rattle.lara_syntax.specs.declared.ast.AstValue.{AstValue}
 use Rattle.lara_syntax.specs.declared.ast.AstEntry.{AstEntry}
 use Rattle.lara_syntax.specs.declared.ast.AstNode.{AstNode}
 use Rattle.lara_syntax.specs.declared.ast.AstOp.TheVariants as op
@@ -23,7 +22,7 @@ use Rattle.lara_syntax.proofs.RuleReaders.{sign-reads, name-reads, key_type-read
 use Rattle.lara_syntax.proofs.Complete.{NoComma, AfterNames, no_names_by, names_comma}
 use Rattle.lara_syntax.proofs.Viable.{IsViable, IsCase, Starts, case_viable, case_refuse, viable_bind, viable_give, viable_choice}
 use Rattle.lara_syntax.proofs.ViableLoop.{Keeps, IsItem, loop_starts, viable_list, keeps_viable, keeps_none, keeps_choice, viable_item}
-use Rattle.lara_syntax.proofs.ViableWords.{name_spelled, a_name, any, next_is, token, viable_behind, Takes, quiet_takes, refuse_takes, sign_takes, sign_viable, sign_starts, name_takes, name_viable, key_type_viable, val_type_viable, lit_takes, literal_case, literal_keeps, lit_viable, first_takes, second_takes, commas_viable, quiet_list, no_list, empty_list}
+use Rattle.lara_syntax.proofs.ViableWords.{name_spelled, a_name, any, next_is, token, viable_behind, Takes, quiet_takes, refuse_takes, sign_takes, sign_viable, sign_starts, name_takes, name_viable, key_type_viable, val_type_viable, lit_takes, case_cond, keeps_cond, lit_viable, first_takes, second_takes, commas_viable, quiet_list, no_list, empty_list}
 
 -- ---- names
 
@@ -106,18 +105,18 @@ unfolding r.lits r.comma_lit
 lits_takes = first_takes r.lit _ lit_takes (λ x. reads_items (r.comma_then r.lit) (comma-one r.lit lit-reads) (comma-reads r.lit lit-reads) (x ∷ []))
 
 pub some_lits_cases : (w : Option Lexeme) → IsCase (next_is Colon) (r.some_lits_by w)
-some_lits_cases w = literal_case (next_is Colon) r.lits (give []) (case_viable (next_is Colon) _ (lits_viable (next_is Colon) (next_no Colon tt))) (case_viable (next_is Colon) (give []) (viable_give (next_is Colon) [])) (r.next_literal w)
+some_lits_cases w = case_cond (next_is Colon) (r.is_literal w) r.lits (give []) (case_viable (next_is Colon) _ (lits_viable (next_is Colon) (next_no Colon tt))) (case_viable (next_is Colon) (give []) (viable_give (next_is Colon) []))
 
-pub some_lits_empty : (v : Option AstValue) (u : Items) (xs : List AstLit) → r.at_literal r.lits (give []) v u ≡ read_of xs u → xs ≡ []
-some_lits_empty (Some v) u xs e = no_list r.lits lits_takes u xs e
-some_lits_empty None u xs e = empty_list u xs e
+pub some_lits_empty : (here : Bool) (u : Items) (xs : List AstLit) → cond here r.lits (give []) u ≡ read_of xs u → xs ≡ []
+some_lits_empty true u xs e = no_list r.lits lits_takes u xs e
+some_lits_empty false u xs e = empty_list u xs e
 
 pub no_lits : (v : Items) → next_is Colon (head_word v) → r.some_lits_by (head_word v) v ≡ read_of [] v
 no_lits v after = ap (λ (w : Option Lexeme). r.some_lits_by w v) after
 
 pub some_lits_viable : IsViable (next_is Colon) r.some_lits
 unfolding r.some_lits
-some_lits_viable = viable_choice (next_is Colon) r.some_lits_by some_lits_cases (quiet_list (next_is Colon) r.some_lits_by (λ u xs e. some_lits_empty (r.next_literal (head_word u)) u xs e) no_lits) [] tt [] no_lits
+some_lits_viable = viable_choice (next_is Colon) r.some_lits_by some_lits_cases (quiet_list (next_is Colon) r.some_lits_by (λ u xs e. some_lits_empty (r.is_literal (head_word u)) u xs e) no_lits) [] tt [] no_lits
 
 pub entry_viable : (F : Option Lexeme → Type 0) → ((w : Option Lexeme) → F w → NoComma w) → IsViable F r.entry
 unfolding r.entry
@@ -151,19 +150,19 @@ an_entry_viable F not_comma = viable_bind F F r.entry (λ x. give (Some x)) entr
 
 pub entry_here_cases : (F : Option Lexeme → Type 0) → ((w : Option Lexeme) → F w → NoComma w) → (w : Option Lexeme) → IsCase F (r.entry_here_by w)
 entry_here_cases F not_comma (Some (lex.Sign Colon)) = case_viable F _ (an_entry_viable F not_comma)
-entry_here_cases F not_comma w = literal_case F r.an_entry (give None) (case_viable F _ (an_entry_viable F not_comma)) (case_viable F (give None) (viable_give F None)) (r.next_literal w)
+entry_here_cases F not_comma w = case_cond F (r.is_literal w) r.an_entry (give None) (case_viable F _ (an_entry_viable F not_comma)) (case_viable F (give None) (viable_give F None))
 
 pub an_entry_takes : Takes r.an_entry
 unfolding r.entry
 an_entry_takes = first_takes r.entry (λ x. give (Some x)) (second_takes r.some_lits _ some_lits-reads (λ ks. first_takes (sign Colon) _ (sign_takes Colon) (λ at. reads_bind _ _ lits-reads (λ row. reads_give _)))) (λ x. reads_give _)
 
-pub entry_at_one : (v : Option AstValue) (ts : Items) (x : AstEntry) (u : Items) → r.at_literal r.an_entry (give None) v ts ≡ read_of (Some x) u → length u < length ts
-entry_at_one (Some v) ts x u e = an_entry_takes ts (Some x) u e
-entry_at_one None ts x u e = absurd (none_some ts u x e)
+pub entry_at_one : (here : Bool) (ts : Items) (x : AstEntry) (u : Items) → cond here r.an_entry (give None) ts ≡ read_of (Some x) u → length u < length ts
+entry_at_one true ts x u e = an_entry_takes ts (Some x) u e
+entry_at_one false ts x u e = absurd (none_some ts u x e)
 
 pub entry_here_by_one : (w : Option Lexeme) (ts : Items) (x : AstEntry) (u : Items) → r.entry_here_by w ts ≡ read_of (Some x) u → length u < length ts
 entry_here_by_one (Some (lex.Sign Colon)) ts x u e = an_entry_takes ts (Some x) u e
-entry_here_by_one w ts x u e = entry_at_one (r.next_literal w) ts x u e
+entry_here_by_one w ts x u e = entry_at_one (r.is_literal w) ts x u e
 
 pub entry_here-one : TakesOne r.entry_here
 unfolding r.entry_here
@@ -175,7 +174,7 @@ entry_here_viable F sub = viable_item F r.entry_here_by entry_here-one (λ v aft
 
 pub entry_here_keeps_by : (w : Option Lexeme) → Keeps AfterEntry (r.entry_here_by w)
 entry_here_keeps_by (Some (lex.Sign Colon)) = keeps_viable AfterEntry _ (an_entry_viable AfterEntry entry_no)
-entry_here_keeps_by w = literal_keeps AfterEntry r.an_entry (give None) (keeps_viable AfterEntry _ (an_entry_viable AfterEntry entry_no)) (keeps_none AfterEntry) (r.next_literal w)
+entry_here_keeps_by w = keeps_cond AfterEntry (r.is_literal w) r.an_entry (give None) (keeps_viable AfterEntry _ (an_entry_viable AfterEntry entry_no)) (keeps_none AfterEntry)
 
 pub entry_here_keeps : Keeps AfterEntry r.entry_here
 unfolding r.entry_here

@@ -10,7 +10,6 @@ use Rattle.lara_data.specs.declared.refusal.Kind.TheVariants.{Unexpected}
 use Rattle.lara_syntax.specs.declared.fault.Stop.{Stop}
 use Rattle.lara_key.specs.declared.key.KeyType.TheVariants as key_type_of
 use Rattle.lara_semiring.specs.declared.value.ValType.TheVariants as val_type_of
-use Rattle.lara_syntax.specs.declared.ast.AstValue.{AstValue}
 use Rattle.lara_syntax.specs.declared.ast.AstValue.TheVariants as val
 use Rattle.lara_syntax.specs.declared.item.Keyword.{Keyword}
 use Rattle.lara_syntax.specs.StartSymbols.{IsSpelled}
@@ -102,6 +101,10 @@ pub case_cond : {A : Type 0} (F : Option Lexeme → Type 0) (b : Bool) (p q : Re
 case_cond F true p q cp cq = cp
 case_cond F false p q cp cq = cq
 
+pub keeps_cond : {A : Type 0} (G : Option Lexeme → Type 0) (b : Bool) (p q : Reader (Option A)) → Keeps G p → Keeps G q → Keeps G (cond b p q)
+keeps_cond G true p q kp kq = kp
+keeps_cond G false p q kp kq = kq
+
 pub sign_cases : (F : Option Lexeme → Type 0) (m : Sign) (w : Option Lexeme) → IsCase F (sign_by m w)
 sign_cases F m (Some (lex.Sign k)) = case_cond F (same_sign m k) skip (refuse Unexpected) (case_viable F skip (viable_skip F)) (case_refuse F Unexpected)
 sign_cases F m w = case_refuse F Unexpected
@@ -128,54 +131,35 @@ pub name_viable : (F : Option Lexeme → Type 0) → IsViable F r.name
 unfolding r.name
 name_viable F = viable_choice F r.name_by (name_cases F) (quiet_takes F r.name name_takes) (token (lex.Name a_name) ∷ []) (name_spelled, tt) (record { name = a_name; at = 0 }) (λ v after. refl)
 
-pub key_type_cases : (F : Option Lexeme → Type 0) (w : Option Lexeme) → IsCase F (r.key_type_by w)
-key_type_cases F (Some (lex.Key key.Nat)) = case_viable F _ (viable_behind F (λ at. give key_type_of.Nat) (λ at. reads_give _) (λ at. viable_give F _))
-key_type_cases F w = case_refuse F Unexpected
+pub as_cases : {A B : Type 0} (F : Option Lexeme → Type 0) (make : ℕ → A → B) (x : Option A) → IsCase F (r.taken_as make x)
+as_cases F make (Some x) = case_viable F _ (viable_behind F (λ at. give (make at x)) (λ at. reads_give _) (λ at. viable_give F _))
+as_cases F make None = case_refuse F Unexpected
 
-pub key_type_by_takes : (w : Option Lexeme) → Takes (r.key_type_by w)
-key_type_by_takes (Some (lex.Key key.Nat)) ts x u e = skip_shortens (λ at. give key_type_of.Nat) (λ at. reads_give _) ts x u e
-key_type_by_takes w ts x u e = refuse_takes ts x u e
+pub as_takes : {A B : Type 0} (make : ℕ → A → B) (x : Option A) → Takes (r.taken_as make x)
+as_takes make (Some x) ts y u e = skip_shortens (λ at. give (make at x)) (λ at. reads_give _) ts y u e
+as_takes make None ts y u e = refuse_takes ts y u e
+
+-- a word that stands for something; w is one
+pub as_viable : {A B : Type 0} (F : Option Lexeme → Type 0) (make : ℕ → A → B) (f : Lexeme → Option A) (w : Lexeme) (x : A) → IsSpelled w → f w ≡ Some x → IsViable F (peek >>= λ o. r.taken_as make (r.next_as f o))
+as_viable {A = A} F make f w x spelled e =
+    viable_choice F (λ o. r.taken_as make (r.next_as f o)) (λ o. as_cases F make (r.next_as f o)) (quiet_takes F (peek >>= λ o. r.taken_as make (r.next_as f o)) (λ ts y u h. as_takes make (r.next_as f (head_word ts)) ts y u h))
+    (token w ∷ []) (spelled, tt) (make 0 x) (λ v after. ap (λ (o : Option A). r.taken_as make o (token w ∷ v)) e)
 
 pub key_type_viable : (F : Option Lexeme → Type 0) → IsViable F r.key_type
 unfolding r.key_type
-key_type_viable F = viable_choice F r.key_type_by (key_type_cases F) (quiet_takes F r.key_type (λ ts x u e. key_type_by_takes (head_word ts) ts x u e)) (token (lex.Key key.Nat) ∷ []) (key_spelled key.Nat, tt) key_type_of.Nat (λ v after. refl)
-
-pub val_type_cases : (F : Option Lexeme → Type 0) (w : Option Lexeme) → IsCase F (r.val_type_by w)
-val_type_cases F (Some (lex.Key key.Count)) = case_viable F _ (viable_behind F (λ at. give val_type_of.Count) (λ at. reads_give _) (λ at. viable_give F _))
-val_type_cases F w = case_refuse F Unexpected
-
-pub val_type_by_takes : (w : Option Lexeme) → Takes (r.val_type_by w)
-val_type_by_takes (Some (lex.Key key.Count)) ts x u e = skip_shortens (λ at. give val_type_of.Count) (λ at. reads_give _) ts x u e
-val_type_by_takes w ts x u e = refuse_takes ts x u e
+key_type_viable F = as_viable F r.without_place r.word_key_type (lex.Key key.Nat) key_type_of.Nat (key_spelled key.Nat) refl
 
 pub val_type_viable : (F : Option Lexeme → Type 0) → IsViable F r.val_type
 unfolding r.val_type
-val_type_viable F = viable_choice F r.val_type_by (val_type_cases F) (quiet_takes F r.val_type (λ ts x u e. val_type_by_takes (head_word ts) ts x u e)) (token (lex.Key key.Count) ∷ []) (key_spelled key.Count, tt) val_type_of.Count (λ v after. refl)
-
-pub lit_cases : (F : Option Lexeme → Type 0) (v : Option AstValue) → IsCase F (r.lit_of v)
-lit_cases F (Some v) = case_viable F _ (viable_behind F (λ at. give (record { at = at; value = v })) (λ at. reads_give _) (λ at. viable_give F _))
-lit_cases F None = case_refuse F Unexpected
-
-pub lit_of_takes : (v : Option AstValue) → Takes (r.lit_of v)
-lit_of_takes (Some v) ts x u e = skip_shortens (λ at. give (record { at = at; value = v })) (λ at. reads_give _) ts x u e
-lit_of_takes None ts x u e = refuse_takes ts x u e
-
-pub lit_takes : Takes r.lit
-unfolding r.lit
-lit_takes ts x u e = lit_of_takes (r.next_literal (head_word ts)) ts x u e
-
--- a choice by whether a literal is next
-pub literal_case : {A : Type 0} (F : Option Lexeme → Type 0) (p q : Reader A) → IsCase F p → IsCase F q → (v : Option AstValue) → IsCase F (r.at_literal p q v)
-literal_case F p q cp cq (Some v) = cp
-literal_case F p q cp cq None = cq
-
-pub literal_keeps : {A : Type 0} (G : Option Lexeme → Type 0) (p q : Reader (Option A)) → Keeps G p → Keeps G q → (v : Option AstValue) → Keeps G (r.at_literal p q v)
-literal_keeps G p q kp kq (Some v) = kp
-literal_keeps G p q kp kq None = kq
+val_type_viable F = as_viable F r.without_place r.word_val_type (lex.Key key.Count) val_type_of.Count (key_spelled key.Count) refl
 
 pub lit_viable : (F : Option Lexeme → Type 0) → IsViable F r.lit
 unfolding r.lit
-lit_viable F = viable_choice F r.lit_by (λ w. lit_cases F (r.next_literal w)) (quiet_takes F r.lit lit_takes) (token (lex.Number 0) ∷ []) (number_spelled, tt) (record { at = 0; value = val.Number 0 }) (λ v after. refl)
+lit_viable F = as_viable F r.lit_at r.literal_of (lex.Number 0) (val.Number 0) number_spelled refl
+
+pub lit_takes : Takes r.lit
+unfolding r.lit
+lit_takes ts x u e = as_takes r.lit_at (r.next_as r.literal_of (head_word ts)) ts x u e
 
 -- two steps of which the first, or the second, takes a word
 pub first_takes : {A B : Type 0} (p : Reader A) (f : A → Reader B) → Takes p → ((x : A) → IsReader (f x)) → Takes (p >>= f)

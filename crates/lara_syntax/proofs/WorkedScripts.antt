@@ -1,16 +1,17 @@
 -- Scripts of a few bytes, with the places of their trees counted by hand.
-use Rattle.std.specs.Prelude.{◌≡◌, ℕ, [], ◌∷◌, Some, Ok, Err, codes}
+use Rattle.std.specs.Prelude.{◌≡◌, ℕ, true, [], ◌∷◌, Some, Ok, Err, codes}
 use Rattle.std.proofs.Common.{refl}
 use Rattle.lara_key.specs.declared.key.KeyType.TheVariants as key_type
 use Rattle.lara_semiring.specs.declared.value.ValType.TheVariants as val_type
 use Rattle.lara_data.specs.declared.refusal.Kind.TheVariants.{Unexpected, BadByte}
 use Rattle.lara_syntax.specs.declared.ast.AstName.{AstName}
 use Rattle.lara_syntax.specs.declared.ast.AstOp.TheVariants as op
-use Rattle.lara_syntax.specs.declared.ast.AstValue.TheVariants.{Number}
+use Rattle.lara_syntax.specs.declared.ast.AstValue.TheVariants.{Number, Text, Flag, Inf, None}
 use Rattle.lara_syntax.specs.declared.ast.AstStatement.TheVariants as st
 use Rattle.lara_syntax.specs.ScanSteps.{gather, gather_within}
+use Rattle.lara_syntax.specs.TextContents.{content_byte}
 use Rattle.lara_syntax.specs.FixedWords.{keyword_of, sign_of}
-use Rattle.lara_syntax.specs.TokenWords.{name_word, number_word, one_sign, sign_word, word_at, item_here, stop_at}
+use Rattle.lara_syntax.specs.TokenWords.{name_word, number_word, text_word, one_sign, sign_word, word_at, item_here, stop_at}
 use Rattle.lara_syntax.specs.Tokens.{scanned, items_of, stop_of}
 use Rattle.lara_syntax.specs.Steps.{turns, turns_within}
 use Rattle.lara_syntax.specs.Reading as r
@@ -39,6 +40,18 @@ keyless : parsed (codes "E=table[:v:count]{:5};") ≡ Ok (record {
 })
 unfolding parsed items_of stop_of scanned stop_at gather gather_within item_here word_at name_word number_word sign_word one_sign sign_of keyword_of Rattle.lara_base.specs.Names.starts_name Rattle.lara_base.specs.Names.goes_on Rattle.lara_base.specs.Names.is_name Rattle.lara_base.specs.Names.is_keyword turns turns_within r.script r.statements r.next_statement r.statement r.name r.sign r.table r.operand r.inside r.leaf r.table_type r.some_key_cols r.key_col r.key_type r.comma_key_col r.val_cols r.val_col r.val_type r.comma_val_col r.some_entries r.entry_here r.entry r.some_lits r.lits r.lit r.comma_lit r.semi_entry r.some_order r.some_names r.comma_name
 keyless = refl
+
+-- `T=table[k:text:f:flag,p:path]{"a":true,none;:inf};`: literals and types by their words
+typed_words : parsed (codes "T=table[k:text:f:flag,p:path]{\"a\":true,none;:inf};") ≡ Ok (record {
+  statements = st.Assign 0 (named 0 84) (record {
+    at = 2;
+    op = op.Literal (record { keys = record { name = named 8 107; ty = key_type.Text } ∷ []; vals = record { name = named 15 102; ty = val_type.Flag } ∷ record { name = named 22 112; ty = val_type.Path } ∷ [] })
+        (record { at = 30; key = record { at = 30; value = Text (97 ∷ []) } ∷ []; row = record { at = 34; value = Flag true } ∷ record { at = 39; value = None } ∷ [] }
+        ∷ record { at = 44; key = []; row = record { at = 45; value = Inf } ∷ [] } ∷ []);
+  }) ∷ [];
+})
+unfolding parsed items_of stop_of scanned stop_at gather gather_within item_here word_at name_word number_word text_word content_byte sign_word one_sign sign_of keyword_of Rattle.lara_base.specs.Names.starts_name Rattle.lara_base.specs.Names.goes_on Rattle.lara_base.specs.Names.is_name Rattle.lara_base.specs.Names.is_keyword turns turns_within r.script r.statements r.next_statement r.statement r.name r.sign r.table r.operand r.inside r.leaf r.table_type r.some_key_cols r.key_col r.key_type r.comma_key_col r.val_cols r.val_col r.val_type r.comma_val_col r.some_entries r.entry_here r.entry r.some_lits r.lits r.lit r.comma_lit r.semi_entry
+typed_words = refl
 
 -- a table in brackets is at its first word other than `(`
 summed_join : parsed (codes "A=agg(join load B C)by;") ≡ Ok (record {

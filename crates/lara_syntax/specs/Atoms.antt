@@ -1,5 +1,5 @@
 -- What holds no name, no text and no other expression, so that to copy it takes no memory.
-use Rattle.std.specs.Prelude.{Bool, true, false}
+use Rattle.std.specs.Prelude.{Bool, true, false, List, [], ◌∷◌, IsTrue}
 use Rattle.lara_syntax.specs.declared.ast.AstValue.{AstValue}
 use Rattle.lara_syntax.specs.declared.ast.AstValue.TheVariants as value
 use Rattle.lara_syntax.specs.declared.ast_expr.AstForm.{AstForm}
@@ -8,6 +8,9 @@ use Rattle.lara_syntax.specs.declared.ast_part.AstArg.{AstArg}
 use Rattle.lara_syntax.specs.declared.ast_part.AstArg.TheVariants as arg
 use Rattle.lara_syntax.specs.declared.ast_part.AstArgValue.{AstArgValue}
 use Rattle.lara_syntax.specs.declared.ast_part.AstArgValue.TheVariants as arg_value
+use Rattle.lara_syntax.specs.declared.item.Item.{Item}
+use Rattle.lara_syntax.specs.declared.item.Lexeme.{Lexeme}
+use Rattle.lara_syntax.specs.declared.item.Lexeme.TheVariants as lex
 use Rattle.lara_syntax.specs.declared.token.TokenWord.{TokenWord}
 use Rattle.lara_syntax.specs.declared.token.TokenWord.TheVariants as word
 
@@ -38,3 +41,13 @@ is_atom f = false
 abbrev pub is_plain_word : TokenWord → Bool
 is_plain_word (word.Text content) = false
 is_plain_word w = true
+
+-- a word that is no text
+abbrev pub is_plain_lexeme : Lexeme → Bool
+is_plain_lexeme (lex.Text content) = false
+is_plain_lexeme w = true
+
+-- none of the words is a text
+abbrev pub HoldNoText : List Item → Type 0
+HoldNoText [] = Unit {0}
+HoldNoText (t ∷ ts) = IsTrue (is_plain_lexeme t.lexeme) × HoldNoText ts

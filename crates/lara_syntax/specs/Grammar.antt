@@ -1,5 +1,5 @@
 -- The grammar: which words stand for which tree. `X x ts rest` says that ts is x, and behind it rest.
-use Rattle.std.specs.Prelude.{◌≤◌, ℕ, suc, List, [], ◌∷◌, length, Option, Some, None}
+use Rattle.std.specs.Prelude.{◌≤◌, ℕ, suc, true, false, List, [], ◌∷◌, length, Option, Some, None}
 use Rattle.lara_key.specs.declared.key.KeyType.{KeyType}
 use Rattle.lara_key.specs.declared.key.KeyType.TheVariants as key_type_of
 use Rattle.lara_semiring.specs.declared.value.ValType.{ValType}
@@ -47,21 +47,41 @@ Key k = Word (lex.Key k)
 abbrev pub Named : AstName → Items → Items → Type 0
 Named x = Word (lex.Name x.name) x.at
 
--- the words that are literals, each with its value
-pub data IsLiteral : Lexeme → AstValue → Type 0 where
-  number : (n : ℕ) → IsLiteral (lex.Number n) (val.Number n)
+-- how a value is written, as one word
+abbrev pub literal_word : AstValue → Lexeme
+literal_word (val.Number n) = lex.Number n
+literal_word (val.Text content) = lex.Text content
+literal_word (val.Flag true) = lex.Key key.True
+literal_word (val.Flag false) = lex.Key key.False
+literal_word val.Inf = lex.Key key.Inf
+literal_word val.None = lex.Key key.None
 
--- lit, one word
-pub data Lit : AstLit → Items → Items → Type 0 where
-  lit : (at : ℕ) (w : Lexeme) (v : AstValue) (ts rest : Items) → IsLiteral w v → Word w at ts rest → Lit (record { at = at; value = v }) ts rest
+-- lit = NUMBER | TEXT | "true" | "false" | "inf" | "none"
+abbrev pub Lit : AstLit → Items → Items → Type 0
+Lit x = Word (literal_word x.value) x.at
 
--- the type of a key column
-pub data KeyTyped : KeyType → Items → Items → Type 0 where
-  nat : (at : ℕ) (ts rest : Items) → Key key.Nat at ts rest → KeyTyped key_type_of.Nat ts rest
+-- the keyword of a type of key columns
+abbrev pub key_type_word : KeyType → Keyword
+key_type_word key_type_of.Nat = key.Nat
+key_type_word key_type_of.Text = key.Text
+key_type_word key_type_of.Flag = key.Flag
 
--- the type of a value column
-pub data ValTyped : ValType → Items → Items → Type 0 where
-  count : (at : ℕ) (ts rest : Items) → Key key.Count at ts rest → ValTyped val_type_of.Count ts rest
+-- keytype = "nat" | "text" | "flag"
+abbrev pub KeyTyped : KeyType → Items → Items → Type 0
+KeyTyped t ts rest = (at : ℕ) × Key (key_type_word t) at ts rest
+
+-- the keyword of a type of value columns
+abbrev pub val_type_word : ValType → Keyword
+val_type_word val_type_of.Count = key.Count
+val_type_word val_type_of.MinPlus = key.MinPlus
+val_type_word val_type_of.MaxMin = key.MaxMin
+val_type_word val_type_of.Flag = key.Flag
+val_type_word val_type_of.Last = key.Last
+val_type_word val_type_of.Path = key.Path
+
+-- valtype = "count" | "minplus" | "maxmin" | "flag" | "last" | "path"
+abbrev pub ValTyped : ValType → Items → Items → Type 0
+ValTyped t ts rest = (at : ℕ) × Key (val_type_word t) at ts rest
 
 -- ---- lists
 
@@ -85,13 +105,13 @@ pub data Maybe {A : Type 0} (X : List A → Items → Items → Type 0) : List A
 
 -- ---- columns
 
--- key_col = NAME ":" "nat"
+-- key_col = NAME ":" keytype
 pub data KeyCol : AstKeyCol → Items → Items → Type 0 where
   key_col : (c : ℕ) (x : AstName) (t : KeyType) (ts us vs rest : Items)
       → Named x ts us → Mark Colon c us vs → KeyTyped t vs rest
       → KeyCol (record { name = x; ty = t }) ts rest
 
--- val_col = NAME ":" "count"
+-- val_col = NAME ":" valtype
 pub data ValCol : AstValCol → Items → Items → Type 0 where
   val_col : (c : ℕ) (x : AstName) (t : ValType) (ts us vs rest : Items)
       → Named x ts us → Mark Colon c us vs → ValTyped t vs rest

@@ -1,5 +1,5 @@
 -- Reading from left to right: each rule of the grammar by the word that is next.
-use Rattle.std.specs.Prelude.{ℕ, zero, suc, Bool, true, false, nat_lt, List, [], ◌∷◌, length, Option, Some, None, if◌then◌else◌}
+use Rattle.std.specs.Prelude.{ℕ, zero, suc, Bool, true, false, nat_lt, List, [], ◌∷◌, length, Option, Some, None, is_some, if◌then◌else◌}
 use Rattle.lara_key.specs.declared.key.KeyType.{KeyType}
 use Rattle.lara_key.specs.declared.key.KeyType.TheVariants as key_type_of
 use Rattle.lara_semiring.specs.declared.value.ValType.{ValType}
@@ -54,53 +54,76 @@ name_by w = refuse Unexpected
 unfoldable pub name : Reader AstName
 name = peek >>= name_by
 
--- the type of a key column, by the word that is next
-abbrev pub key_type_by : Option Lexeme → Reader KeyType
-key_type_by (Some (lex.Key key.Nat)) = do
-  at ← skip
-  give key_type_of.Nat
-key_type_by w = refuse Unexpected
+-- what the word that is next stands for
+abbrev pub next_as : {A : Type 0} → (Lexeme → Option A) → Option Lexeme → Option A
+next_as f None = None
+next_as f (Some w) = f w
 
--- the type of a key column: "nat"
+-- takes the word that is next, which stands for something; what is made of its place and that
+abbrev pub taken_as : {A B : Type 0} → (ℕ → A → B) → Option A → Reader B
+taken_as make (Some x) = do
+  at ← skip
+  give (make at x)
+taken_as make None = refuse Unexpected
+
+-- what a word stands for, without its place
+abbrev pub without_place : {A : Type 0} → ℕ → A → A
+without_place at x = x
+
+-- the type of key columns that a word stands for
+abbrev pub word_key_type : Lexeme → Option KeyType
+word_key_type (lex.Key key.Nat) = Some key_type_of.Nat
+word_key_type (lex.Key key.Text) = Some key_type_of.Text
+word_key_type (lex.Key key.Flag) = Some key_type_of.Flag
+word_key_type w = None
+
+-- keytype, by the word that is next
+abbrev pub key_type_by : Option Lexeme → Reader KeyType
+key_type_by w = taken_as without_place (next_as word_key_type w)
+
+-- keytype, one word
 unfoldable pub key_type : Reader KeyType
 key_type = peek >>= key_type_by
 
--- the type of a value column, by the word that is next
-abbrev pub val_type_by : Option Lexeme → Reader ValType
-val_type_by (Some (lex.Key key.Count)) = do
-  at ← skip
-  give val_type_of.Count
-val_type_by w = refuse Unexpected
+-- the type of value columns that a word stands for
+abbrev pub word_val_type : Lexeme → Option ValType
+word_val_type (lex.Key key.Count) = Some val_type_of.Count
+word_val_type (lex.Key key.MinPlus) = Some val_type_of.MinPlus
+word_val_type (lex.Key key.MaxMin) = Some val_type_of.MaxMin
+word_val_type (lex.Key key.Flag) = Some val_type_of.Flag
+word_val_type (lex.Key key.Last) = Some val_type_of.Last
+word_val_type (lex.Key key.Path) = Some val_type_of.Path
+word_val_type w = None
 
--- the type of a value column: "count"
+-- valtype, by the word that is next
+abbrev pub val_type_by : Option Lexeme → Reader ValType
+val_type_by w = taken_as without_place (next_as word_val_type w)
+
+-- valtype, one word
 unfoldable pub val_type : Reader ValType
 val_type = peek >>= val_type_by
 
 -- the value of a word that is a literal
 abbrev pub literal_of : Lexeme → Option AstValue
 literal_of (lex.Number n) = Some (val.Number n)
+literal_of (lex.Text content) = Some (val.Text content)
+literal_of (lex.Key key.True) = Some (val.Flag true)
+literal_of (lex.Key key.False) = Some (val.Flag false)
+literal_of (lex.Key key.Inf) = Some val.Inf
+literal_of (lex.Key key.None) = Some val.None
 literal_of w = None
 
--- the value of the literal that is next
-abbrev pub next_literal : Option Lexeme → Option AstValue
-next_literal None = None
-next_literal (Some w) = literal_of w
+-- a literal is next
+abbrev pub is_literal : Option Lexeme → Bool
+is_literal w = is_some (next_as literal_of w)
 
--- p where a literal is next, and q elsewhere
-abbrev pub at_literal : {A : Type 0} → Reader A → Reader A → Option AstValue → Reader A
-at_literal p q (Some v) = p
-at_literal p q None = q
-
--- a literal, by its value
-abbrev pub lit_of : Option AstValue → Reader AstLit
-lit_of (Some v) = do
-  at ← skip
-  give (record { at = at; value = v })
-lit_of None = refuse Unexpected
+-- a value at its place
+abbrev pub lit_at : ℕ → AstValue → AstLit
+lit_at at v = record { at = at; value = v }
 
 -- lit, by the word that is next
 abbrev pub lit_by : Option Lexeme → Reader AstLit
-lit_by w = lit_of (next_literal w)
+lit_by w = taken_as lit_at (next_as literal_of w)
 
 -- lit, one word
 unfoldable pub lit : Reader AstLit
@@ -139,7 +162,7 @@ some_names = peek >>= some_names_by
 
 -- ---- type = "[" [ key_col { "," key_col } ] ":" val_col { "," val_col } "]"
 
--- key_col = NAME ":" "nat"
+-- key_col = NAME ":" keytype
 unfoldable pub key_col : Reader AstKeyCol
 key_col = do
   x ← name
@@ -162,7 +185,7 @@ some_key_cols_by w = give []
 unfoldable pub some_key_cols : Reader (List AstKeyCol)
 some_key_cols = peek >>= some_key_cols_by
 
--- val_col = NAME ":" "count"
+-- val_col = NAME ":" valtype
 unfoldable pub val_col : Reader AstValCol
 val_col = do
   x ← name
@@ -204,7 +227,7 @@ lits = do
 
 -- [ lit { "," lit } ], by the word that is next
 abbrev pub some_lits_by : Option Lexeme → Reader (List AstLit)
-some_lits_by w = at_literal lits (give []) (next_literal w)
+some_lits_by w = if is_literal w then lits else give []
 
 -- [ lit { "," lit } ]
 unfoldable pub some_lits : Reader (List AstLit)
@@ -229,7 +252,7 @@ an_entry = do
 -- [ entry ], by the word that is next
 abbrev pub entry_here_by : Option Lexeme → Reader (Option AstEntry)
 entry_here_by (Some (lex.Sign Colon)) = an_entry
-entry_here_by w = at_literal an_entry (give None) (next_literal w)
+entry_here_by w = if is_literal w then an_entry else give None
 
 -- [ entry ]
 unfoldable pub entry_here : Reader (Option AstEntry)

@@ -88,6 +88,11 @@ abbrev pub Fails : {Y : Type 0} → Fault → Result Y Stop → Type 0
 Fails faults.Memory read = Unit {0}
 Fails (faults.Stopped s) read = read ≡ Err s
 
+-- memory did not run out
+abbrev pub HasMemory : {X : Type 0} → Result X Fault → Type 0
+HasMemory (Err faults.Memory) = ⊥
+HasMemory returned = Unit {0}
+
 -- What a function returned, seen by view, is what reading gives, unless memory ran out.
 abbrev pub Gives : {X Y : Type 0} → (X → Y) → Result X Fault → Result Y Stop → Type 0
 Gives view (Ok x) read = read ≡ Ok (view x)

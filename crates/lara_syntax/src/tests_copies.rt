@@ -359,9 +359,21 @@ fn is_table_copied_as(
 fn literals_are_copied(rt: HostRuntime) -> Result<(), Fail> {
     let alloc = rt.alloc();
     let inf = literal_op(alloc, AstValue::Inf);
-    assert!(rt; is_table_copied_as(alloc, inf, b"7 table k@7 : v@7 { 7: t!@7 : inf@7 } ")?);
+    assert!(rt;
+        is_table_copied_as(
+            alloc,
+            inf,
+            b"7 table k@7 nat : v@7 count { 7: t!@7 : inf@7 } "
+        )?
+    );
     let none = literal_op(alloc, AstValue::None);
-    assert!(rt; is_table_copied_as(alloc, none, b"7 table k@7 : v@7 { 7: t!@7 : none@7 } ")?);
+    assert!(rt;
+        is_table_copied_as(
+            alloc,
+            none,
+            b"7 table k@7 nat : v@7 count { 7: t!@7 : none@7 } "
+        )?
+    );
     Ok(())
 }
 

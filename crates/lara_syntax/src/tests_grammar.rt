@@ -8,23 +8,30 @@ use crate::ast::{
 use crate::parsing::parse;
 use crate::tests_shown::{behind, behind_number, behind_place, copy_of, is_end, is_refusal};
 use lara_data::ReadFault;
+use lara_key::KeyType;
+use lara_semiring::ValType;
 use std::alloc::{AllocError, Global};
 
-// Each script with its tree: a statement, a table, an entry, a name and a value each with its place; or its refusal.
-const CASES: [(&[u8], &str); 40] = [
+// Each script with its tree: a statement, a table, an entry, a name and a value each with its place, and the types of
+// columns; or its refusal.
+const CASES: [(&[u8], &str); 43] = [
     (b"", ""),
     (b"# nothing\n", ""),
     (
         b"T=table[k:nat:v:count]{1:2;};print T by k;",
-        "0 T@0 = 2 table k@8 : v@14 { 23: 1@23 : 2@25 } 29 print T@35 37 by k@40 ",
+        "0 T@0 = 2 table k@8 nat : v@14 count { 23: 1@23 : 2@25 } 29 print T@35 37 by k@40 ",
     ),
     (
         b"T=table[:a:count,b:count]{:1,2;:3,4};",
-        "0 T@0 = 2 table : a@9 b@17 { 26: : 1@27 2@29 31: : 3@32 4@34 } ",
+        "0 T@0 = 2 table : a@9 count b@17 count { 26: : 1@27 2@29 31: : 3@32 4@34 } ",
     ),
     (
         b"T=table[k:nat,l:nat:v:count]{};print T by;print T;",
-        "0 T@0 = 2 table k@8 l@14 : v@20 { } 31 print T@37 39 by 42 print T@48 ",
+        "0 T@0 = 2 table k@8 nat l@14 nat : v@20 count { } 31 print T@37 39 by 42 print T@48 ",
+    ),
+    (
+        b"T=table[n:nat,t:text,f:flag:c:count,d:minplus,w:maxmin,g:flag,l:last,p:path]{7,\"\\x41\\\"\",false:1,inf,2,true,\"\",none};",
+        "0 T@0 = 2 table n@8 nat t@14 text f@21 flag : c@28 count d@36 minplus w@46 maxmin g@55 flag l@62 last p@69 path { 77: 7@77 A\"!@79 false@88 : 1@94 inf@96 2@100 true@102 !@107 none@110 } ",
     ),
     (
         b"C = agg (join A B) by i, j;",
@@ -49,6 +56,7 @@ const CASES: [(&[u8], &str); 40] = [
     (b"= 1", "0 Unexpected"),
     (b"print", "5 Unexpected"),
     (b"print 5;", "6 Unexpected"),
+    (b"print inf;", "6 Unexpected"),
     (b"print T by ,;", "11 Unexpected"),
     (b"print T by a,;", "13 Unexpected"),
     (b"print T by a b;", "13 Unexpected"),
@@ -56,6 +64,7 @@ const CASES: [(&[u8], &str); 40] = [
     (b"T=table[k:nat]{};", "13 Unexpected"),
     (b"T=table[k:count:v:count]{};", "10 Unexpected"),
     (b"T=table[k:nat:v:nat]{};", "16 Unexpected"),
+    (b"T=table[:v:text]{};", "11 Unexpected"),
     (b"T=table[:v:count]{:1;;};", "21 Unexpected"),
     (b"T=table[:v:count]{;};", "18 Unexpected"),
     (b"T=table[:v:count]{1};", "19 Unexpected"),
@@ -124,10 +133,34 @@ fn behind_entries<'a>(want: &'a [u8], entries: &[AstEntry]) -> Option<&'a [u8]> 
     behind(rest, b"} ")
 }
 
+// What is left behind a keyword and a space.
+fn behind_word<'a>(want: &'a [u8], word: &[u8]) -> Option<&'a [u8]> {
+    behind(behind(want, word)?, b" ")
+}
+
+fn key_type_name(ty: KeyType) -> &'static [u8] {
+    match ty {
+        KeyType::Nat => b"nat",
+        KeyType::Text => b"text",
+        KeyType::Flag => b"flag",
+    }
+}
+
+fn val_type_name(ty: ValType) -> &'static [u8] {
+    match ty {
+        ValType::Count => b"count",
+        ValType::MinPlus => b"minplus",
+        ValType::MaxMin => b"maxmin",
+        ValType::Flag => b"flag",
+        ValType::Last => b"last",
+        ValType::Path => b"path",
+    }
+}
+
 fn behind_keys<'a>(want: &'a [u8], keys: &[AstKeyCol]) -> Option<&'a [u8]> {
     let mut rest = want;
     for col in keys {
-        rest = behind_name(rest, &col.name)?;
+        rest = behind_word(behind_name(rest, &col.name)?, key_type_name(col.ty))?;
     }
     Some(rest)
 }
@@ -135,7 +168,7 @@ fn behind_keys<'a>(want: &'a [u8], keys: &[AstKeyCol]) -> Option<&'a [u8]> {
 fn behind_vals<'a>(want: &'a [u8], vals: &[AstValCol]) -> Option<&'a [u8]> {
     let mut rest = want;
     for col in vals {
-        rest = behind_name(rest, &col.name)?;
+        rest = behind_word(behind_name(rest, &col.name)?, val_type_name(col.ty))?;
     }
     Some(rest)
 }
@@ -279,6 +312,14 @@ fn the_257th_statement_is_refused(rt: HostRuntime) -> Result<(), AllocError> {
         let is = are_parsed_as(rt.alloc(), b"", 256, b"print T;", behind, want.as_bytes())?;
         assert!(rt; is, "at {want}");
     }
+    Ok(())
+}
+
+#[test]
+fn a_text_of_1025_bytes_is_refused(rt: HostRuntime) -> Result<(), AllocError> {
+    let before: &[u8] = b"T=table[:v:last]{:\"";
+    let is = are_parsed_as(rt.alloc(), before, 1025, b"a", b"\"};", b"18 BadText")?;
+    assert!(rt; is);
     Ok(())
 }
 

@@ -2,7 +2,7 @@
 ghost use Rattle.std.specs.Prelude.{◌≡◌, ◌∷◌, ◌+◌, ◌≤◌, ◌<◌, [], length, IfOk};
 ghost use Rattle.lara_syntax.specs.Returns.{Returns};
 ghost use Rattle.lara_syntax.specs.Steps.{Gives, items_from};
-ghost use Rattle.lara_syntax.specs.Reading.{key_type, val_type, key_col, val_col, comma_key_col, comma_val_col, some_key_cols, val_cols, table_type};
+ghost use Rattle.lara_syntax.specs.Reading.{word_key_type, word_val_type, key_type, val_type, key_col, val_col, comma_key_col, comma_val_col, some_key_cols, val_cols, table_type};
 
 use crate::ast::{AstKeyCol, AstType, AstValCol};
 use crate::fault::{Fault, Stop};
@@ -14,6 +14,19 @@ use lara_key::KeyType;
 use lara_semiring::ValType;
 use std::alloc::Global;
 
+// The type of key columns that a word stands for.
+fn word_key_type(lexeme: &Lexeme) -> Option<KeyType>
+    ensures { result ≡ word_key_type lexeme.now }
+{
+    match lexeme {
+        Lexeme::Key(Keyword::Nat) => Some(KeyType::Nat),
+        Lexeme::Key(Keyword::Text) => Some(KeyType::Text),
+        Lexeme::Key(Keyword::Flag) => Some(KeyType::Flag),
+        _ => None,
+    }
+}
+
+// keytype, one word
 #[tactic(auto, unfolding(crate::specs::Reading::key_type))]
 fn key_type(items: &[Item]) -> Result<(KeyType, &[Item]), Stop>
     ensures { Returns (λ x. (x.0, x.1.now)) result (key_type items.now) }
@@ -21,12 +34,28 @@ fn key_type(items: &[Item]) -> Result<(KeyType, &[Item]), Stop>
     let Some((item, rest)) = next(items) else {
         return Err(stopped(items, Kind::Unexpected));
     };
-    match &item.lexeme {
-        Lexeme::Key(Keyword::Nat) => Ok((KeyType::Nat, rest)),
-        _ => Err(stopped(items, Kind::Unexpected)),
+    match word_key_type(&item.lexeme) {
+        Some(ty) => Ok((ty, rest)),
+        None => Err(stopped(items, Kind::Unexpected)),
     }
 }
 
+// The type of value columns that a word stands for.
+fn word_val_type(lexeme: &Lexeme) -> Option<ValType>
+    ensures { result ≡ word_val_type lexeme.now }
+{
+    match lexeme {
+        Lexeme::Key(Keyword::Count) => Some(ValType::Count),
+        Lexeme::Key(Keyword::MinPlus) => Some(ValType::MinPlus),
+        Lexeme::Key(Keyword::MaxMin) => Some(ValType::MaxMin),
+        Lexeme::Key(Keyword::Flag) => Some(ValType::Flag),
+        Lexeme::Key(Keyword::Last) => Some(ValType::Last),
+        Lexeme::Key(Keyword::Path) => Some(ValType::Path),
+        _ => None,
+    }
+}
+
+// valtype, one word
 #[tactic(auto, unfolding(crate::specs::Reading::val_type))]
 fn val_type(items: &[Item]) -> Result<(ValType, &[Item]), Stop>
     ensures { Returns (λ x. (x.0, x.1.now)) result (val_type items.now) }
@@ -34,13 +63,13 @@ fn val_type(items: &[Item]) -> Result<(ValType, &[Item]), Stop>
     let Some((item, rest)) = next(items) else {
         return Err(stopped(items, Kind::Unexpected));
     };
-    match &item.lexeme {
-        Lexeme::Key(Keyword::Count) => Ok((ValType::Count, rest)),
-        _ => Err(stopped(items, Kind::Unexpected)),
+    match word_val_type(&item.lexeme) {
+        Some(ty) => Ok((ty, rest)),
+        None => Err(stopped(items, Kind::Unexpected)),
     }
 }
 
-// key_col = NAME ":" "nat"
+// key_col = NAME ":" keytype
 #[tactic(auto, unfolding(crate::specs::Reading::key_col))]
 fn key_col(alloc: Global, items: &[Item]) -> Result<(AstKeyCol, &[Item]), Fault>
     ensures { Gives (λ x. (x.0, x.1.now)) result (key_col items.now) }
@@ -108,7 +137,7 @@ fn some_key_cols(alloc: Global, items: &[Item]) -> Result<(List<AstKeyCol>, &[It
     }
 }
 
-// val_col = NAME ":" "count"
+// val_col = NAME ":" valtype
 #[tactic(auto, unfolding(crate::specs::Reading::val_col))]
 fn val_col(alloc: Global, items: &[Item]) -> Result<(AstValCol, &[Item]), Fault>
     ensures { Gives (λ x. (x.0, x.1.now)) result (val_col items.now) }

@@ -1,53 +1,72 @@
 //! Values as they are written, and the entries of a literal.
-ghost use Rattle.std.specs.Prelude.{◌≡◌, ◌∷◌, ◌+◌, ◌≤◌, ◌<◌, [], length, IfOk};
-ghost use Rattle.lara_syntax.specs.Returns.{Returns};
-ghost use Rattle.lara_syntax.specs.Steps.{Gives, items_from};
+ghost use Rattle.std.specs.Prelude.{◌≡◌, ◌∷◌, ◌+◌, ◌≤◌, ◌<◌, [], length, Some, IfOk, IsOk, IsTrue};
+ghost use Rattle.lara_syntax.specs.Atoms.{is_plain_lexeme, HoldNoText};
+ghost use Rattle.lara_syntax.specs.Steps.{HasMemory, Gives, items_from};
 ghost use Rattle.lara_syntax.specs.Places.{first_at};
-ghost use Rattle.lara_syntax.specs.Reading.{literal_of, lit, comma_lit, lits, some_lits, entry, an_entry, entry_here, semi_entry, some_entries};
+ghost use Rattle.lara_syntax.specs.Reading.{literal_of, is_literal, lit, comma_lit, lits, some_lits, entry, an_entry, entry_here, semi_entry, some_entries};
 
 use crate::ast::{AstEntry, AstLit, AstValue};
-use crate::fault::{Fault, Stop};
-use crate::item::{Item, Lexeme, Sign};
+use crate::fault::Fault;
+use crate::item::{Item, Keyword, Lexeme, Sign};
 use crate::steps::{next, sign, stopped};
-use lara_base::List;
+use lara_base::{Copied, List};
 use lara_data::Kind;
-use std::alloc::Global;
+use std::alloc::{AllocError, Global};
 
-// The value of a word that is a literal.
-fn literal_of(lexeme: &Lexeme) -> Option<AstValue>
-    ensures { result ≡ literal_of lexeme.now }
+// The value of a word that is a literal. A text is copied, and memory is taken for nothing else.
+fn literal_of(alloc: Global, lexeme: &Lexeme) -> Result<Option<AstValue>, AllocError>
+    ensures value { IfOk result (λ v. v ≡ literal_of lexeme.now) }
+    ensures exact { IsTrue (is_plain_lexeme lexeme.now) → IsOk result }
+{
+    Ok(match lexeme {
+        Lexeme::Number(n) => Some(AstValue::Number(*n)),
+        Lexeme::Text(content) => Some(AstValue::Text(content.copy(alloc)?)),
+        Lexeme::Key(Keyword::True) => Some(AstValue::Flag(true)),
+        Lexeme::Key(Keyword::False) => Some(AstValue::Flag(false)),
+        Lexeme::Key(Keyword::Inf) => Some(AstValue::Inf),
+        Lexeme::Key(Keyword::None) => Some(AstValue::None),
+        _ => None,
+    })
+}
+
+// Whether a word is a literal, with no copy of it.
+fn is_literal(lexeme: &Lexeme) -> bool
+    ensures { result ≡ is_literal (Some lexeme.now) }
 {
     match lexeme {
-        Lexeme::Number(n) => Some(AstValue::Number(*n)),
-        _ => None,
+        Lexeme::Number(_) | Lexeme::Text(_) => true,
+        Lexeme::Key(Keyword::True | Keyword::False | Keyword::Inf | Keyword::None) => true,
+        _ => false,
     }
 }
 
 // lit, one word
 #[tactic(auto, unfolding(crate::specs::Reading::lit))]
-fn lit(items: &[Item]) -> Result<(AstLit, &[Item]), Stop>
-    ensures { Returns (λ x. (x.0, x.1.now)) result (lit items.now) }
+fn lit(alloc: Global, items: &[Item]) -> Result<(AstLit, &[Item]), Fault>
+    ensures gives { Gives (λ x. (x.0, x.1.now)) result (lit items.now) }
+    ensures exact { HoldNoText items.now → HasMemory result }
 {
     let Some((item, rest)) = next(items) else {
-        return Err(stopped(items, Kind::Unexpected));
+        return Err(stopped(items, Kind::Unexpected).into());
     };
-    match literal_of(&item.lexeme) {
+    match literal_of(alloc, &item.lexeme)? {
         Some(value) => Ok((AstLit { at: item.at, value }, rest)),
-        None => Err(stopped(items, Kind::Unexpected)),
+        None => Err(stopped(items, Kind::Unexpected).into()),
     }
 }
 
 // [ "," lit ]
 #[tactic(auto, unfolding(crate::specs::Reading::comma_lit))]
-fn comma_lit(items: &[Item]) -> Result<(Option<AstLit>, &[Item]), Stop>
-    ensures { Returns (λ x. (x.0, x.1.now)) result (comma_lit items.now) }
+fn comma_lit(alloc: Global, items: &[Item]) -> Result<(Option<AstLit>, &[Item]), Fault>
+    ensures gives { Gives (λ x. (x.0, x.1.now)) result (comma_lit items.now) }
+    ensures exact { HoldNoText items.now → HasMemory result }
 {
     let Some((item, rest)) = next(items) else {
         return Ok((None, items));
     };
     match &item.lexeme {
         Lexeme::Sign(Sign::Comma) => {
-            let (x, rest) = lit(rest)?;
+            let (x, rest) = lit(alloc, rest)?;
             Ok((Some(x), rest))
         }
         _ => Ok((None, items)),
@@ -66,7 +85,7 @@ fn more_lits(
     let mut lits = lits;
     let mut rest = items;
     loop {
-        let (x, after) = comma_lit(rest)?;
+        let (x, after) = comma_lit(alloc, rest)?;
         rest = after;
         match x {
             None => return Ok((lits, rest)),
@@ -81,7 +100,7 @@ fn lits(alloc: Global, items: &[Item]) -> Result<(List<AstLit>, &[Item]), Fault>
     ensures { Gives (λ x. (x.0, x.1.now)) result (lits items.now) }
 {
     let mut lits = List::new(alloc);
-    let (x, rest) = lit(items)?;
+    let (x, rest) = lit(alloc, items)?;
     lits.push(x)?;
     more_lits(alloc, lits, rest)
 }
@@ -94,9 +113,10 @@ fn some_lits(alloc: Global, items: &[Item]) -> Result<(List<AstLit>, &[Item]), F
     let Some((item, _)) = next(items) else {
         return Ok((List::new(alloc), items));
     };
-    match literal_of(&item.lexeme) {
-        Some(_) => lits(alloc, items),
-        None => Ok((List::new(alloc), items)),
+    if is_literal(&item.lexeme) {
+        lits(alloc, items)
+    } else {
+        Ok((List::new(alloc), items))
     }
 }
 
@@ -141,9 +161,10 @@ fn entry_here(alloc: Global, items: &[Item]) -> Result<(Option<AstEntry>, &[Item
     if let Lexeme::Sign(Sign::Colon) = &item.lexeme {
         return an_entry(alloc, items);
     }
-    match literal_of(&item.lexeme) {
-        Some(_) => an_entry(alloc, items),
-        None => Ok((None, items)),
+    if is_literal(&item.lexeme) {
+        an_entry(alloc, items)
+    } else {
+        Ok((None, items))
     }
 }
 
