@@ -56,3 +56,5 @@ mod tests_report;
 mod tests_stored;
 #[cfg(test)]
 mod tests_tables;
+#[cfg(test)]
+mod tests_types;

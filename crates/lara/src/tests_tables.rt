@@ -1,5 +1,6 @@
 //! Tables and their texts where there is memory, with texts worked out by hand. The names in these tests have one letter.
 ghost use Rattle.std.specs.Prelude.{◌≡◌, ◌∷◌, [], true, map, IfOk};
+ghost use Rattle.lara_base.specs.Texts.{is_text};
 ghost use Rattle.lara_key.specs.Keys.{tuple_has, has_key_type};
 ghost use Rattle.lara_key.specs.declared.key.KeyType.TheVariants.{Nat};
 ghost use Rattle.lara_key.specs.declared.key.KeyVal.TheVariants as key;
@@ -9,7 +10,7 @@ ghost use Rattle.lara_data.specs.TableTypes.{types, key_types};
 
 use crate::table_text::add_table_text;
 use lara_assoc::Assoc;
-use lara_base::{Bytes, List, Name};
+use lara_base::{Bytes, List, Name, Text};
 use lara_data::{Entry, KeyCol, TableType, ValCol};
 use lara_key::{KeyType, KeyVal, Tuple};
 use lara_semiring::{Row, ValType, Value};
@@ -101,6 +102,14 @@ pub fn key(alloc: Global, numbers: &[u64]) -> Result<Tuple, AllocError>
     Ok(key)
 }
 
+// Each text is one of at most 1,024 bytes, or stands for all that are longer.
+fn is_a_text(text: &Text) -> bool
+    ensures { result ≡ is_text text.now }
+{
+    text.known();
+    true
+}
+
 // Whether a column of a key is of this type.
 #[tactic(auto, unfolding(lara_key::specs::Keys::has_key_type))]
 fn is_of_type(ty: KeyType, value: &KeyVal) -> bool
@@ -108,6 +117,9 @@ fn is_of_type(ty: KeyType, value: &KeyVal) -> bool
 {
     match (ty, value) {
         (KeyType::Nat, KeyVal::Nat(n)) => *n <= u64::MAX,
+        (KeyType::Text, KeyVal::Text(text)) => is_a_text(text),
+        (KeyType::Flag, KeyVal::Flag(_)) => true,
+        _ => false,
     }
 }
 

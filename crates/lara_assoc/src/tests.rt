@@ -269,9 +269,9 @@ fn is_row(row: &[Value], want: &[u64]) -> bool {
         return false;
     }
     for (i, v) in row.iter().enumerate() {
-        let Value::Count(n) = *v;
-        if n != want[i] {
-            return false;
+        match v {
+            Value::Count(n) if *n == want[i] => {}
+            _ => return false,
         }
     }
     true

@@ -9,6 +9,9 @@ use Rattle.lara_semiring.specs.declared.value.ValType.{ValType}
 use Rattle.lara_semiring.specs.declared.value.ValType.TheVariants as val_type
 use Rattle.lara_semiring.specs.declared.value.Value.{Value}
 use Rattle.lara_semiring.specs.declared.value.Value.TheVariants as value
+use Rattle.lara_semiring.specs.Counts.{count_over}
+use Rattle.lara_semiring.specs.MinPlus.{minplus_inf}
+use Rattle.lara_semiring.specs.MaxMin.{maxmin_over}
 use Rattle.lara_semiring.specs.Values.{has_type}
 use Rattle.lara_semiring.specs.Rows.{row_has}
 use Rattle.lara_key.specs.declared.key.KeyType.{KeyType}
@@ -22,6 +25,9 @@ use Rattle.lara_data.specs.Tables.{Entry, Entries}
 use Rattle.lara_text.specs.TableTexts.{key_text, value_text, cell_text, entry_line}
 use Rattle.lara_text.specs.Delimited.{Ends, IsDelimited, EachAs, first_is, rest_is, joined_apart_as}
 use Rattle.lara_text.specs.Numbers.{IsDelimited-number, number_not_end}
+use Rattle.lara_text.specs.Distances.{IsDelimited-distance}
+use Rattle.lara_text.specs.FlagTexts.{IsDelimited-flag, flag_not_end}
+use Rattle.lara_text.specs.ShortTexts.{IsDelimited-short, IsDelimited-path, short_not_end}
 
 -- a column of the type
 abbrev pub HasKeyType : KeyType → KeyVal → Type 0
@@ -33,11 +39,16 @@ HasType t v = has_type t v ≡ true
 
 -- ---- columns and values, type by type
 
+-- a pair of equations carried through a constructor
+under : {X Y : Type 0} (f : X → Y) {x y : X} {r s : List ℕ} → (x ≡ y) × (r ≡ s) → (f x ≡ f y) × (r ≡ s)
+under f both = (ap f both.0, both.1)
+
 key_type_apart : (t : KeyType) (x y : KeyVal) (r s : List ℕ) → HasKeyType t x → HasKeyType t y → Ends goes_on r → Ends goes_on s → key_text x ++ r ≡ key_text y ++ s → (x ≡ y) × (r ≡ s)
 unfolding key_text has_key_type
-key_type_apart key_type.Nat (key.Nat m) (key.Nat n) r s p q h k e =
-    let both = IsDelimited-number.apart m n r s (leb-true m nat_over p) (leb-true n nat_over q) h k e in
-    (ap key.Nat both.0, both.1)
+key_type_apart key_type.Nat (key.Nat m) (key.Nat n) r s p q h k e = under key.Nat (IsDelimited-number.apart m n r s (leb-true m nat_over p) (leb-true n nat_over q) h k e)
+key_type_apart key_type.Text (key.Text a) (key.Text b) r s p q h k e = under key.Text ((IsDelimited-short goes_on).apart a b r s p q h k e)
+key_type_apart key_type.Flag (key.Flag a) (key.Flag b) r s p q h k e = under key.Flag (IsDelimited-flag.apart a b r s tt tt h k e)
+key_type_apart _ _ _ r s p q h k e = cc
 
 pub IsDelimited-key : (t : KeyType) → IsDelimited (HasKeyType t) goes_on key_text
 IsDelimited-key t = record { apart = key_type_apart t }
@@ -46,12 +57,19 @@ IsDelimited-key t = record { apart = key_type_apart t }
 key_not_end : (t : KeyType) (x : KeyVal) (r s : List ℕ) → HasKeyType t x → key_text x ++ r ≡ 101 ∷ s → ⊥
 unfolding key_text has_key_type
 key_not_end key_type.Nat (key.Nat n) r s p e = number_not_end n r s (leb-true n nat_over p) e
+key_not_end key_type.Text (key.Text t) r s p e = short_not_end t r s e
+key_not_end key_type.Flag (key.Flag b) r s p e = flag_not_end b r s e
+key_not_end _ _ r s p e = cc
 
 value_apart : (t : ValType) (x y : Value) (r s : List ℕ) → HasType t x → HasType t y → Ends goes_on r → Ends goes_on s → value_text x ++ r ≡ value_text y ++ s → (x ≡ y) × (r ≡ s)
 unfolding value_text has_type
-value_apart val_type.Count (value.Count m) (value.Count n) r s p q h k e =
-    let both = IsDelimited-number.apart m n r s (leb-true m nat_over p) (leb-true n nat_over q) h k e in
-    (ap value.Count both.0, both.1)
+value_apart val_type.Count (value.Count m) (value.Count n) r s p q h k e = under value.Count (IsDelimited-number.apart m n r s (leb-true m count_over p) (leb-true n count_over q) h k e)
+value_apart val_type.MinPlus (value.MinPlus m) (value.MinPlus n) r s p q h k e = under value.MinPlus (IsDelimited-distance.apart m n r s (leb-true m minplus_inf p) (leb-true n minplus_inf q) h k e)
+value_apart val_type.MaxMin (value.MaxMin m) (value.MaxMin n) r s p q h k e = under value.MaxMin (IsDelimited-number.apart m n r s (leb-true m maxmin_over p) (leb-true n maxmin_over q) h k e)
+value_apart val_type.Flag (value.Flag a) (value.Flag b) r s p q h k e = under value.Flag (IsDelimited-flag.apart a b r s tt tt h k e)
+value_apart val_type.Last (value.Last a) (value.Last b) r s p q h k e = under value.Last ((IsDelimited-short goes_on).apart a b r s p q h k e)
+value_apart val_type.Path (value.Path a) (value.Path b) r s p q h k e = under value.Path ((IsDelimited-path goes_on).apart a b r s p q h k e)
+value_apart _ _ _ r s p q h k e = cc
 
 pub IsDelimited-value : (t : ValType) → IsDelimited (HasType t) goes_on value_text
 IsDelimited-value t = record { apart = value_apart t }

@@ -1,9 +1,12 @@
 pub mod CellLaws
 pub mod Columns
 pub mod Delimited
+pub mod Distances
+pub mod FlagTexts
 pub mod HeadLaws
 pub mod Numbers
 pub mod Quotes
+pub mod ShortTexts
 pub mod TableTexts
 pub mod TextLaws
 pub mod Told

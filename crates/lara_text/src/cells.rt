@@ -1,14 +1,15 @@
 //! The cells of a table as text, and its end.
 ghost use Rattle.std.specs.Prelude.{◌≡◌, ◌++◌, codes, decimal, OnOk, IfOk};
 ghost use Rattle.std.specs.List.{flat_map, join_by};
-ghost use Rattle.lara_text.specs.TableTexts.{number_text, key_text, value_text, cell_text, entry_line, end_text, line};
+ghost use Rattle.lara_text.specs.TableTexts.{number_text, distance_text, flag_text, short_text, path_text, key_text, value_text, cell_text, entry_line, end_text, line};
 ghost use Rattle.lara_text.specs.Told.{CellTold};
 
+use crate::quotes::add_quoted;
 use itoa::Buffer;
-use lara_base::{Bytes, List};
+use lara_base::{Bytes, List, Text};
 use lara_data::{Order, TableType};
 use lara_key::{KeyVal, Tuple};
-use lara_semiring::{Row, Value};
+use lara_semiring::{PathText, Row, Value};
 use std::alloc::{AllocError, Global};
 
 // Adds a number in decimal.
@@ -31,12 +32,62 @@ fn add_number(text: &mut Bytes, n: u64) -> Result<(), AllocError>
     }
 }
 
+// Adds a distance, `over` or `inf`.
+#[tactic(auto, unfolding(crate::specs::TableTexts::distance_text))]
+fn add_distance(text: &mut Bytes, n: u64) -> Result<(), AllocError>
+    ensures { OnOk result (text.new ≡ text.old ++ distance_text n) }
+{
+    if n == u64::MAX {
+        text.extend_from_slice(b"inf")
+    } else if n == u64::MAX - 1 {
+        text.extend_from_slice(b"over")
+    } else {
+        add_decimal(text, n)
+    }
+}
+
+#[tactic(auto, unfolding(crate::specs::TableTexts::flag_text))]
+fn add_flag(text: &mut Bytes, flag: bool) -> Result<(), AllocError>
+    ensures { OnOk result (text.new ≡ text.old ++ flag_text flag) }
+{
+    if flag {
+        text.extend_from_slice(b"true")
+    } else {
+        text.extend_from_slice(b"false")
+    }
+}
+
+// Adds a text in quotes, or `over`.
+#[tactic(auto, unfolding(crate::specs::TableTexts::short_text))]
+fn add_short(text: &mut Bytes, short: &Text) -> Result<(), AllocError>
+    ensures { OnOk result (text.new ≡ text.old ++ short_text short.now) }
+{
+    match short {
+        Text::Within(content) => add_quoted(text, content.bytes().as_slice()),
+        Text::Over => text.extend_from_slice(b"over"),
+    }
+}
+
+// Adds a path in quotes, `over` or `none`.
+#[tactic(auto, unfolding(crate::specs::TableTexts::path_text))]
+fn add_path(text: &mut Bytes, path: &PathText) -> Result<(), AllocError>
+    ensures { OnOk result (text.new ≡ text.old ++ path_text path.now) }
+{
+    match path {
+        PathText::Within(content) => add_quoted(text, content.bytes().as_slice()),
+        PathText::Over => text.extend_from_slice(b"over"),
+        PathText::Absent => text.extend_from_slice(b"none"),
+    }
+}
+
 #[tactic(auto, unfolding(crate::specs::TableTexts::key_text))]
 fn add_key_val(text: &mut Bytes, column: &KeyVal) -> Result<(), AllocError>
     ensures { OnOk result (text.new ≡ text.old ++ key_text column.now) }
 {
     match column {
         KeyVal::Nat(n) => add_number(text, *n),
+        KeyVal::Text(short) => add_short(text, short),
+        KeyVal::Flag(flag) => add_flag(text, *flag),
     }
 }
 
@@ -46,6 +97,11 @@ fn add_value(text: &mut Bytes, value: &Value) -> Result<(), AllocError>
 {
     match value {
         Value::Count(n) => add_number(text, *n),
+        Value::MinPlus(n) => add_distance(text, *n),
+        Value::MaxMin(n) => add_number(text, *n),
+        Value::Flag(flag) => add_flag(text, *flag),
+        Value::Last(short) => add_short(text, short),
+        Value::Path(path) => add_path(text, path),
     }
 }
 

@@ -15,6 +15,8 @@ fn add_key_type(text: &mut Bytes, ty: KeyType) -> Result<(), AllocError>
 {
     match ty {
         KeyType::Nat => text.extend_from_slice(b"nat"),
+        KeyType::Text => text.extend_from_slice(b"text"),
+        KeyType::Flag => text.extend_from_slice(b"flag"),
     }
 }
 
@@ -24,6 +26,11 @@ fn add_val_type(text: &mut Bytes, ty: ValType) -> Result<(), AllocError>
 {
     match ty {
         ValType::Count => text.extend_from_slice(b"count"),
+        ValType::MinPlus => text.extend_from_slice(b"minplus"),
+        ValType::MaxMin => text.extend_from_slice(b"maxmin"),
+        ValType::Flag => text.extend_from_slice(b"flag"),
+        ValType::Last => text.extend_from_slice(b"last"),
+        ValType::Path => text.extend_from_slice(b"path"),
     }
 }
 

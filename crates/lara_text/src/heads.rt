@@ -2,6 +2,7 @@
 ghost use Rattle.std.specs.Prelude.{◌≡◌, ◌++◌, OnOk, IfOk};
 ghost use Rattle.lara_data.specs.Algebra.{key_cols};
 ghost use Rattle.lara_text.specs.TableTexts.{head_text, line};
+ghost use Rattle.lara_text.specs.Told.{HeadTold};
 
 use crate::columns::{add_key_columns, add_val_columns};
 use lara_base::{Bytes, List, Name};
@@ -42,14 +43,16 @@ pub fn add_head_line(
     text.extend_from_slice(b"\n")
 }
 
-/// The head of a table of the type, with its key columns in the order, which has each of them once.
+/// The head of a table of the type, with its key columns in the order, which has each of them once. It tells the name, those
+/// columns and the value columns.
 pub fn table_head(
     alloc: Global,
     name: &Name,
     ty: &TableType,
     order: &Order,
 ) -> Result<Bytes, AllocError>
-    ensures { IfOk result (λ text. text ≡ head_text name.now ty.now order.now) }
+    ensures text { IfOk result (λ text. text ≡ head_text name.now ty.now order.now) }
+    ensures only { IfOk result (λ text. HeadTold name.now ty.now order.now text) }
 {
     let mut text = List::new(alloc);
     add_head(alloc, &mut text, name, ty, order)?;
