@@ -1,7 +1,9 @@
 //! Tables of every type of values and keys in whole calls: worked examples with their exact bytes, ranges, and broken
 //! literals with place and kind worked out by hand.
 
-use crate::tests::{is_past_range, printing_rows, refused_rows};
+use crate::tests::{is_past_range, printing_rows, prints, refused_rows};
+use lara_base::{Bytes, List};
+use std::alloc::{AllocError, Global};
 use std::test::Fail;
 
 // In order: paths end to end, text keys in the order of their bytes, two distances, a flag key with three types of
@@ -104,5 +106,43 @@ fn a_distance_past_the_range_is_out_of_range(rt: HostRuntime) -> Result<(), Fail
         b"T = table [i: nat : d: minplus] { 1 : 18446744073709551613 }; U = table [i: nat : d: minplus] { 1:1 }; V = join T U; W = union U V; print W; print V;";
     let err = b"lara: statement 6 is out of range\n";
     assert!(rt; is_past_range(rt.alloc(), script, err)?);
+    Ok(())
+}
+
+// A path of 1,000 bytes joined with one of that many: what is joined is printed, or what was joined.
+fn joined(alloc: Global, count: usize, last: &[u8]) -> Result<Bytes, AllocError> {
+    let mut script = List::new(alloc);
+    script.extend_from_slice(b"A = table [x: nat : p: path] { 1 : \"")?;
+    script.extend_from_slice(&vec![in alloc; b'a'; 1000]?)?;
+    script.extend_from_slice(b"\" }; B = table [x: nat : p: path] { 1 : \"")?;
+    script.extend_from_slice(&vec![in alloc; b'b'; count]?)?;
+    script.extend_from_slice(b"\" }; C = join A B; ")?;
+    script.extend_from_slice(last)?;
+    Ok(script)
+}
+
+// Whether a joined path of 1,000 and that many bytes is past the range where it is printed.
+fn is_joined_past_range(alloc: Global, count: usize) -> Result<bool, AllocError> {
+    let script = joined(alloc, count, b"print B; print C;")?;
+    is_past_range(
+        alloc,
+        script.as_slice(),
+        b"lara: statement 5 is out of range\n",
+    )
+}
+
+// Whether the second path of 25 bytes is printed though the joined one, which is not printed, is past the range.
+fn is_printed_beside(alloc: Global) -> Result<bool, AllocError> {
+    let script = joined(alloc, 25, b"print B;")?;
+    let text = b"B[x: nat : p: path]\n1:\"bbbbbbbbbbbbbbbbbbbbbbbbb\"\nend 1\n";
+    prints(alloc, script.as_slice(), text)
+}
+
+#[test]
+fn joined_paths_past_the_limit_are_out_of_range(rt: HostRuntime) -> Result<(), Fail> {
+    let alloc = rt.alloc();
+    assert!(rt; is_joined_past_range(alloc, 25)?);
+    assert!(rt; !is_joined_past_range(alloc, 24)?);
+    assert!(rt; is_printed_beside(alloc)?);
     Ok(())
 }

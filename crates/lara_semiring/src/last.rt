@@ -61,10 +61,11 @@ impl Semiring for Text {
         ensures sum { IfOk result (λ r. r ≡ last_plus self.now other.now) }
         ensures exact { has_bytes (last_plus self.now other.now) ≡ false → IsOk result }
     {
-        if self.cmp(other).is_le() {
-            other.copy(alloc)
-        } else {
+        let is_later = self.cmp(other).is_gt();
+        if is_later {
             self.copy(alloc)
+        } else {
+            other.copy(alloc)
         }
     }
 

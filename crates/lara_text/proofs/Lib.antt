@@ -1,3 +1,4 @@
 pub mod TextFacts
 pub mod WorkedQuotes
 pub mod WorkedTexts
+pub mod WorkedTypes

@@ -1,10 +1,10 @@
 //! The texts of the public calls where there is memory, with bytes worked out by hand.
 
 use crate::{cell_text, table_head};
-use lara_base::{List, Name};
+use lara_base::{Content, List, Name, Text};
 use lara_data::{KeyCol, Order, TableType, ValCol};
 use lara_key::{KeyType, KeyVal, Tuple};
-use lara_semiring::{Row, ValType, Value};
+use lara_semiring::{PathText, Row, ValType, Value};
 use std::alloc::{AllocError, Global};
 use std::test::Fail;
 
@@ -97,5 +97,73 @@ fn cells_have_keys_as_they_stand(rt: HostRuntime) -> Result<(), Fail> {
     let alloc = rt.alloc();
     assert!(rt; reads(alloc, &[5, 1], &[320, 0], b"5,1:320,0")?);
     assert!(rt; reads(alloc, &[10, u64::MAX], &[u64::MAX, 7], b"10,over:over,7")?);
+    Ok(())
+}
+
+// The type [k: text, b: flag : d: minplus, m: maxmin, f: flag, l: last, p: path].
+fn all_types(alloc: Global) -> Result<TableType, AllocError> {
+    let mut keys = List::new(alloc);
+    for (letter, ty) in [(b'k', KeyType::Text), (b'b', KeyType::Flag)] {
+        let name = name(alloc, letter)?;
+        keys.push(KeyCol { name, ty })?;
+    }
+    let mut vals = List::new(alloc);
+    for (letter, ty) in [
+        (b'd', ValType::MinPlus),
+        (b'm', ValType::MaxMin),
+        (b'f', ValType::Flag),
+        (b'l', ValType::Last),
+        (b'p', ValType::Path),
+    ] {
+        let name = name(alloc, letter)?;
+        vals.push(ValCol { name, ty })?;
+    }
+    TableType::new(keys, vals).ok_or(AllocError)
+}
+
+fn content(alloc: Global, bytes: &[u8]) -> Result<Content, AllocError> {
+    Content::new(List::from_slice(alloc, bytes)?).ok_or(AllocError)
+}
+
+// The key of this text and true.
+fn text_key(alloc: Global, bytes: &[u8]) -> Result<Tuple, AllocError> {
+    let mut key = List::new(alloc);
+    key.push(KeyVal::Text(Text::Within(content(alloc, bytes)?)))?;
+    key.push(KeyVal::Flag(true))?;
+    Ok(key)
+}
+
+// The row of no way, a width of 9, false, these bytes, and no path.
+fn text_row(alloc: Global, bytes: &[u8]) -> Result<Row, AllocError> {
+    let mut row = List::new(alloc);
+    row.push(Value::MinPlus(u64::MAX))?;
+    row.push(Value::MaxMin(9))?;
+    row.push(Value::Flag(false))?;
+    row.push(Value::Last(Text::Within(content(alloc, bytes)?)))?;
+    row.push(Value::Path(PathText::Absent))?;
+    Ok(row)
+}
+
+fn heads_all(alloc: Global, want: &[u8]) -> Result<bool, AllocError> {
+    let ty = all_types(alloc)?;
+    let text = table_head(alloc, &name(alloc, b'T')?, &ty, &order(alloc, b"kb")?)?;
+    Ok(text.as_slice() == want)
+}
+
+fn reads_all(alloc: Global, want: &[u8]) -> Result<bool, AllocError> {
+    let ty = all_types(alloc)?;
+    let by = order(alloc, b"kb")?;
+    let key = text_key(alloc, b"a\"\x00")?;
+    let text = cell_text(alloc, &ty, &by, &key, &text_row(alloc, b"\\\x7f\xff")?)?;
+    Ok(text.as_slice() == want)
+}
+
+#[test]
+fn each_type_has_its_word_and_its_texts(rt: HostRuntime) -> Result<(), Fail> {
+    let alloc = rt.alloc();
+    let head = b"T[k: text, b: flag : d: minplus, m: maxmin, f: flag, l: last, p: path]";
+    assert!(rt; heads_all(alloc, head)?);
+    let cell = b"\"a\\\"\\x00\",true:inf,9,false,\"\\\\\\x7f\xff\",none";
+    assert!(rt; reads_all(alloc, cell)?);
     Ok(())
 }
