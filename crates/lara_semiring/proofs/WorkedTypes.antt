@@ -8,7 +8,7 @@ use Rattle.lara_semiring.specs.declared.path.PathText.TheVariants as path
 use Rattle.lara_semiring.specs.declared.value.ValType.TheVariants as ty
 use Rattle.lara_semiring.specs.declared.value.Value.TheVariants.{Count, MinPlus, MaxMin, Flag, Last, Path}
 use Rattle.lara_semiring.specs.ValueSemirings.{holds_text}
-use Rattle.lara_semiring.specs.Values.{same_val_type, has_texts, commutes, is_zero_sum_free, has_no_zero_divisors, has_type, value_zero, value_one, value_plus, value_times, value_is_zero, value_is_over}
+use Rattle.lara_semiring.specs.Values.{same_val_type, has_texts, commutes, has_type, value_zero, value_one, value_plus, value_times, value_is_zero, value_is_over}
 
 -- ---- the types are apart
 

@@ -1,9 +1,9 @@
 -- Texts that can be told from what stands behind them.
 -- A test says which bytes go on within such a text; behind it stands a byte that does not.
-use Rattle.std.specs.Prelude.{◌≡◌, ℕ, Bool, true, false, List, [], ◌∷◌, ◌++◌}
+use Rattle.std.specs.Prelude.{◌≡◌, ℕ, ◌==◌, Bool, true, false, List, [], ◌∷◌, ◌++◌}
 use Rattle.std.proofs.Common.{refl, sym, ap, ◌∙◌, subst}
 use Rattle.std.specs.List.{flat_map, list_all, join_by}
-use Rattle.std.proofs.lemmas.Bool.{and_parts, both_ways}
+use Rattle.std.proofs.lemmas.Bool.{and_parts, both_ways, eqb-false}
 use Rattle.std.proofs.lemmas.List.{append_assoc, append_cancel_left}
 
 -- the text begins with a byte that does not go on
@@ -39,6 +39,10 @@ first_is e = cc
 
 pub rest_is : {x y : ℕ} {xs ys : List ℕ} → x ∷ xs ≡ y ∷ ys → xs ≡ ys
 rest_is e = cc
+
+-- lists that begin with different bytes are not one
+pub firsts_differ : (x y : ℕ) {xs ys : List ℕ} → (x == y) ≡ false → x ∷ xs ≡ y ∷ ys → ⊥
+firsts_differ x y h e = eqb-false x y h (first_is e)
 
 -- ---- runs: texts all of whose bytes go on
 

@@ -1,4 +1,4 @@
-use Rattle.std.proofs.Common.{ap, ◌∙◌, ◌++◌}
+use Rattle.std.proofs.Common.{◌++◌, ◌∙◌, ap}
 use Rattle.lara_text.specs.TableTexts.{head_text}
 use Rattle.lara_text.specs.Told.{head_told}
 use Rattle.lara_text.proofs.heads.table_head.Goals as goal
