@@ -4,7 +4,6 @@ use Rattle.std.proofs.Common.{refl, sym, subst, arith, get_or, zero, suc}
 use Rattle.lara_data.specs.declared.schema.Schema.{Schema}
 use Rattle.lara_data.specs.declared.script.Statement.{Statement}
 use Rattle.lara_data.specs.declared.script.Statement.TheVariants.{Assign, Print, Store}
-use Rattle.lara_data.specs.Names.{has}
 use Rattle.lara_data.specs.TypedScripts.{StatementTyped, known_after, all_known, AllTyped, ScriptTyped}
 use Rattle.lara_data.specs.Plugins.{Plugins}
 use Rattle.lara_data.specs.Denotations.{Database, meaning, Running, after, before_all, after_all}

@@ -4,7 +4,6 @@ use Rattle.std.proofs.Common.{refl, sym, ap, ◌∙◌}
 use Rattle.std.proofs.lemmas.Bool.{and_from, and_parts}
 use Rattle.std.specs.List.{list_any}
 use Rattle.lara_semiring.specs.declared.value.ValType.{ValType}
-use Rattle.lara_semiring.specs.declared.value.ValType.TheVariants as ty
 use Rattle.lara_semiring.specs.declared.value.Value.{Value}
 use Rattle.lara_semiring.specs.Values.{same_val_type, same_val_type_is, same_val_type_itself, has_type, value_zero, value_plus, value_zero_plus, value_zero_is}
 use Rattle.lara_semiring.specs.Rows.{first, rest, row_has, row_zero, row_plus, row_zero_plus_plus, row_zero_twice}

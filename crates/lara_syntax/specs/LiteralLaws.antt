@@ -1,6 +1,6 @@
 -- A literal stands for a value of its column exactly where it is of the column's kind and in its range; the value has the
 -- column's type and is not past the range.
-use Rattle.std.specs.Prelude.{◌≡◌, ℕ, ◌<◌, ◌==◌, min, cond, true, false, nat_le, List}
+use Rattle.std.specs.Prelude.{◌≡◌, ℕ, ◌<◌, cond, true, false, List}
 use Rattle.std.proofs.Common.{refl, sym, ap, ◌∙◌, arith}
 use Rattle.std.proofs.lemmas.Bool.{ltb-true, lt-ltb, lt-leb}
 use Rattle.std.proofs.lemmas.Bool.Decides.{nat_tests}
@@ -12,7 +12,7 @@ use Rattle.lara_key.specs.declared.key.KeyVal.{KeyVal}
 use Rattle.lara_key.specs.declared.key.KeyVal.TheVariants as key
 use Rattle.lara_key.specs.Keys.{nat_over, has_key_type, key_is_over}
 use Rattle.lara_semiring.specs.Counts.{count_over}
-use Rattle.lara_semiring.specs.MinPlus.{minplus_over, minplus_inf}
+use Rattle.lara_semiring.specs.MinPlus.{minplus_over}
 use Rattle.lara_semiring.specs.MaxMin.{maxmin_over}
 use Rattle.lara_semiring.specs.Lasts.{last_is_over}
 use Rattle.lara_semiring.specs.Paths.{path_is_over}

@@ -1,5 +1,5 @@
 -- Texts in quotes, byte by byte, worked out by hand.
-use Rattle.std.specs.Prelude.{◌≡◌, ℕ, List, [], ◌∷◌, codes}
+use Rattle.std.specs.Prelude.{◌≡◌, [], ◌∷◌, codes}
 use Rattle.std.proofs.Common.{refl}
 use Rattle.lara_text.specs.Quotes.{quoted_byte, quoted_text}
 

@@ -1,5 +1,5 @@
 -- Texts of small tables, byte by byte, worked out by hand.
-use Rattle.std.specs.Prelude.{◌≡◌, ℕ, true, false, List, [], ◌∷◌, ◌++◌, codes}
+use Rattle.std.specs.Prelude.{◌≡◌, true, false, [], ◌∷◌, ◌++◌, codes}
 use Rattle.std.proofs.Common.{refl}
 use Rattle.std.specs.Fmt.{digits}
 use Rattle.lara_base.specs.declared.text.Text.TheVariants as text
@@ -18,7 +18,7 @@ use Rattle.lara_data.specs.declared.table_type.ValCol.{ValCol}
 use Rattle.lara_data.specs.TableTypes.{Columns}
 use Rattle.lara_data.specs.KeyedTables.{same_key, before, at, key_put, key_set, at_keys, total}
 use Rattle.lara_data.specs.Names.{Name, same_name, read, cut}
-use Rattle.lara_data.specs.Tables.{Entries, Table, recut}
+use Rattle.lara_data.specs.Tables.{Entries, recut}
 use Rattle.lara_data.specs.Algebra.{key_col, key_cols, agg, ordered}
 use Rattle.lara_text.specs.Quotes.{quoted_byte, quoted_text}
 use Rattle.lara_text.specs.TableTexts.{number_text, distance_text, flag_text, short_text, path_text, key_text, value_text, key_type_text, val_type_text, key_column_text, val_column_text, key_columns_text, head_text, cell_text, end_text, entry_line, table_text}

@@ -1,6 +1,6 @@
 -- Columns as texts: each is told from what stands behind it, and so are the lists of a head.
 use Rattle.std.specs.Prelude.{◌≡◌, ℕ, ◌==◌, Bool, true, false, ◌&&◌, ◌||◌, not, nat_lt, List, [], ◌∷◌, ◌++◌, length, codes}
-use Rattle.std.proofs.Common.{refl, sym, ap, ◌∙◌, arith}
+use Rattle.std.proofs.Common.{refl, sym, ◌∙◌, arith}
 use Rattle.std.specs.List.{flat_map, list_all, join_by}
 use Rattle.std.specs.Char.{is_ascii_digit, is_ascii_uppercase, is_ascii_lowercase}
 use Rattle.std.proofs.lemmas.Bool.{and_parts, and_from}
@@ -10,7 +10,7 @@ use Rattle.lara_data.specs.declared.table_type.KeyCol.{KeyCol}
 use Rattle.lara_data.specs.declared.table_type.ValCol.{ValCol}
 use Rattle.lara_data.specs.Names.{Name}
 use Rattle.lara_text.specs.TableTexts.{key_type_text, val_type_text, key_column_text, val_column_text, key_columns_text}
-use Rattle.lara_text.specs.Delimited.{Ends, IsDelimited, BeginsWithin, IsRun, IsDelimited-run, BeginsWithin-run, Each, first_is, rest_is, joined_apart}
+use Rattle.lara_text.specs.Delimited.{Ends, IsDelimited, BeginsWithin, IsRun, IsDelimited-run, BeginsWithin-run, Each, rest_is, joined_apart}
 use Rattle.lara_text.specs.TypeWords.{IsDelimited-key_type, IsDelimited-val_type}
 
 -- the bytes are a name

@@ -1,7 +1,7 @@
 -- Texts that can be told from what stands behind them.
 -- A test says which bytes go on within such a text; behind it stands a byte that does not.
 use Rattle.std.specs.Prelude.{◌≡◌, ℕ, ◌==◌, Bool, true, false, List, [], ◌∷◌, ◌++◌}
-use Rattle.std.proofs.Common.{refl, sym, ap, ◌∙◌, subst}
+use Rattle.std.proofs.Common.{refl, sym, ◌∙◌, subst}
 use Rattle.std.specs.List.{flat_map, list_all, join_by}
 use Rattle.std.proofs.lemmas.Bool.{and_parts, both_ways, eqb-false}
 use Rattle.std.proofs.lemmas.List.{append_assoc, append_cancel_left}

@@ -1,7 +1,7 @@
 -- Two heads with one text are one.
-use Rattle.std.specs.Prelude.{◌≡◌, ℕ, Bool, true, false, cond, List, [], ◌∷◌, ◌++◌, codes}
-use Rattle.std.proofs.Common.{refl, sym, ap, ◌∙◌}
-use Rattle.std.specs.List.{flat_map, join_by}
+use Rattle.std.specs.Prelude.{◌≡◌, ℕ, true, false, cond, List, [], ◌∷◌, ◌++◌, codes}
+use Rattle.std.proofs.Common.{refl, sym, ◌∙◌}
+use Rattle.std.specs.List.{join_by}
 use Rattle.std.proofs.lemmas.List.{append_assoc}
 use Rattle.lara_base.specs.Names.{goes_on}
 use Rattle.lara_data.specs.declared.table_type.KeyCol.{KeyCol}

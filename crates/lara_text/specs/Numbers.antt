@@ -1,13 +1,13 @@
 -- Numbers as texts, one or another by a word: each is told from what stands behind it.
 use Rattle.std.specs.Prelude.{◌≡◌, ℕ, ◌+◌, ◌-◌, ◌^◌, ◌==◌, ◌<◌, ◌≤◌, ◌%◌, Bool, true, false, List, [], ◌∷◌, ◌++◌, length, codes, decimal, if◌then◌else◌}
-use Rattle.std.proofs.Common.{refl, sym, ap, ◌∙◌, subst, arith}
+use Rattle.std.proofs.Common.{refl, sym, ap, ◌∙◌, arith}
 use Rattle.std.specs.List.{list_all}
 use Rattle.std.specs.Char.{is_ascii_digit}
 use Rattle.std.proofs.lemmas.Bool.{and_parts, and_from, eqb-true, agree_below_at, false≢true}
 use Rattle.std.proofs.lemmas.Fmt.{decimal_by_steps, decimal_nonempty, decimal_injective}
 use Rattle.lara_base.specs.Names.{goes_on}
 use Rattle.lara_text.specs.TableTexts.{number_text}
-use Rattle.lara_text.specs.Delimited.{Ends, IsRun, IsDelimited, IsDelimited-run, run_begun, first_is}
+use Rattle.lara_text.specs.Delimited.{IsRun, IsDelimited, IsDelimited-run, run_begun, first_is}
 
 -- a number of a word
 abbrev pub IsWord : ℕ → Type 0

@@ -3,20 +3,19 @@
 -- with its key columns in that order. So of the table itself it leaves open how its key columns are declared, where that
 -- is not the printed order; and where the type is known, or both are printed in the declared order, it leaves nothing open.
 -- Values past their range are printed as `over`, which is told too, so that nothing is asked of ranges.
-use Rattle.std.specs.Prelude.{◌≡◌, ℕ, Bool, true, false, cond, ◌&&◌, not, List, [], ◌∷◌, ◌++◌, length, codes, decimal}
-use Rattle.std.proofs.Common.{refl, sym, ap, ◌∙◌, subst, arith}
+use Rattle.std.specs.Prelude.{◌≡◌, ℕ, true, false, cond, not, List, [], ◌∷◌, ◌++◌, length, codes, decimal}
+use Rattle.std.proofs.Common.{refl, sym, ap, ◌∙◌, subst}
 use Rattle.std.specs.List.{flat_map}
 use Rattle.std.proofs.lemmas.Bool.{and_parts, or_parts}
 use Rattle.std.proofs.lemmas.List.{append_assoc, length-map}
-use Rattle.lara_semiring.specs.declared.value.ValType.{ValType}
 use Rattle.lara_key.specs.declared.key.KeyType.{KeyType}
 use Rattle.lara_key.specs.Keys.{tuple_has, tuple_has_length}
 use Rattle.lara_data.specs.declared.table_type.KeyCol.{KeyCol}
-use Rattle.lara_data.specs.TableTypes.{Columns, types, key_types, key_names}
+use Rattle.lara_data.specs.TableTypes.{types, key_types, key_names}
 use Rattle.lara_data.specs.KeyedTables.{all_have, AllKeys}
 use Rattle.lara_data.specs.Apart.{keys_total}
 use Rattle.lara_data.specs.TupleOrders.{tuple_order}
-use Rattle.lara_data.specs.Names.{Name, Tuple, same_name, same_name_is, same_name_itself, has, has_tail, has_head, cut, among, among_itself, among_trans, distinct, cut_itself, not_true}
+use Rattle.lara_data.specs.Names.{Name, same_name, same_name_is, same_name_itself, has, has_head, among, among_itself, distinct, cut_itself, not_true}
 use Rattle.lara_data.specs.Tables.{Entries, Table, recut}
 use Rattle.lara_data.specs.Algebra.{heading, agg, agg_heading, key_col, key_cols, agg_table, ordered}
 use Rattle.lara_data.specs.AlgebraTyped.{all_have_agg}

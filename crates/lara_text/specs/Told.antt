@@ -1,7 +1,6 @@
 -- What the text of a cell and of a head tells whoever reads it.
-use Rattle.std.specs.Prelude.{◌≡◌, ℕ, true, List, [], ◌∷◌, ◌++◌, codes}
-use Rattle.std.proofs.Common.{refl, sym, ap, ◌∙◌}
-use Rattle.lara_base.specs.Names.{goes_on}
+use Rattle.std.specs.Prelude.{◌≡◌, ℕ, true, List, [], ◌++◌, codes}
+use Rattle.std.proofs.Common.{ap, ◌∙◌}
 use Rattle.lara_semiring.specs.Rows.{row_has}
 use Rattle.lara_data.specs.TableTypes.{Columns, types, key_types}
 use Rattle.lara_data.specs.KeyedTables.{Row}

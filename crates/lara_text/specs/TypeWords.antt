@@ -9,7 +9,7 @@ use Rattle.lara_semiring.specs.declared.value.ValType.TheVariants as val_type
 use Rattle.lara_key.specs.declared.key.KeyType.{KeyType}
 use Rattle.lara_key.specs.declared.key.KeyType.TheVariants as key_type
 use Rattle.lara_text.specs.TableTexts.{key_type_text, val_type_text}
-use Rattle.lara_text.specs.Delimited.{IsRun, IsDelimited, IsDelimited-run}
+use Rattle.lara_text.specs.Delimited.{IsDelimited, IsDelimited-run}
 
 -- the key type of the word
 unfoldable pub key_type_of : List ℕ → Option KeyType
