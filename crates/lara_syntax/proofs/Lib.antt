@@ -36,6 +36,7 @@ pub mod WordLaws
 pub mod WordReads
 pub mod WordTextLaws
 pub mod WorkedLimits
+pub mod WorkedLiterals
 pub mod WorkedScripts
 pub mod WorkedTokens
 pub mod WrittenLaws
