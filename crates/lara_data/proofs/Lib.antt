@@ -2,6 +2,7 @@ mod WorkedColumns
 mod WorkedScripts
 mod WorkedTables
 pub mod ColumnNames
+pub mod ExprEquations
 pub mod FitEquations
 pub mod MeaningEquations
 pub mod SizeEquations

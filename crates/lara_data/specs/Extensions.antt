@@ -10,7 +10,10 @@ use Rattle.lara_data.specs.declared.table_type.ValCol.{ValCol}
 use Rattle.lara_data.specs.TableTypes.{Columns}
 use Rattle.lara_data.specs.Names.{Name, Tuple, same_name}
 use Rattle.lara_data.specs.Tables.{Entry, Entries, Table, table_of}
+use Rattle.lara_data.specs.KeyedTables.{Row}
 use Rattle.lara_data.specs.Plugins.{Plugins, apply_tuples}
+use Rattle.lara_data.specs.ExprValues.{is_true, value_of, to_key, to_val}
+use Rattle.lara_data.specs.declared.arg.KeyDef.{KeyDef}
 
 -- ---- extensions
 
@@ -26,12 +29,20 @@ each_columns (each.Apply call) ty = record { keys = ty.keys ++ call.cols; vals =
 abbrev pub with_tuples : Entry → List Tuple → Entries
 with_tuples e ts = map (λ t. record { key = e.key ++ t; row = e.row }) ts
 
--- What comes of an entry over the columns ty. Maps, filters and promotes, whose expressions have no meaning yet, give
--- nothing: no typed script has one.
+-- the row that is computed for an entry
+abbrev pub defined_row : Columns → List Def → Entry → Row
+defined_row ty defs e = map {A = Def} (λ d. to_val d.col.ty (value_of ty e.key e.row d.expr)) defs
+
+-- the key of an entry with what is computed for it behind
+abbrev pub promoted_key : Columns → KeyDef → Entry → Tuple
+promoted_key ty def e = e.key ++ to_key def.col.ty (value_of ty e.key e.row def.expr) ∷ []
+
+-- What comes of an entry over the columns ty: of a map the key with the row that is computed, of a filter the entry where the
+-- test is true, of a promote the key with a further column and the same row.
 unfoldable pub of_each : Plugins → Columns → EachOp → Entry → Entries
-of_each ps ty (each.Map defs) e = []
-of_each ps ty (each.Filter test) e = []
-of_each ps ty (each.Promote def) e = []
+of_each ps ty (each.Map defs) e = record { key = e.key; row = defined_row ty defs e } ∷ []
+of_each ps ty (each.Filter test) e = if is_true (value_of ty e.key e.row test) then e ∷ [] else []
+of_each ps ty (each.Promote def) e = record { key = promoted_key ty def e; row = e.row } ∷ []
 of_each ps ty (each.Apply call) e = with_tuples e (apply_tuples ps call.plugin ty call.args e.key)
 
 -- the table of what comes of each entry of a table

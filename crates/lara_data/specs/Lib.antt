@@ -13,6 +13,8 @@ pub mod Databases
 pub mod Denotations
 pub mod DistinctColumns
 pub mod DistinctNames
+pub mod ExprTypes
+pub mod ExprValues
 pub mod Extensions
 pub mod Fits
 pub mod Headings

@@ -1,18 +1,29 @@
 -- The types of operators: the rules in their order, and the columns where all are met.
-use Rattle.std.specs.Prelude.{Bool, false, ◌&&◌, ◌||◌, not, nat_lt, if◌then◌else◌, List, ◌++◌, map, length, Result, Ok, Err}
+use Rattle.std.specs.Prelude.{◌≡◌, ◌<◌, Bool, false, ◌&&◌, ◌||◌, not, nat_lt, if◌then◌else◌, List, [], ◌∷◌, ◌++◌, map, length, true, Result, Ok, Err}
 use Rattle.std.specs.List.{list_any}
 use Rattle.lara_key.specs.Keys.{same_key_type}
 use Rattle.lara_data.specs.declared.refusal.Kind.{Kind}
-use Rattle.lara_data.specs.declared.refusal.Kind.TheVariants.{NameTwice, TooManyColumns, TypesDiffer, NoCommonValue, NotAKey}
+use Rattle.lara_data.specs.declared.refusal.Kind.TheVariants.{NoName, NameTwice, TooManyColumns, TypesDiffer, NoCommonValue, NotAKey}
 use Rattle.lara_data.specs.declared.table_type.ColumnKind.{ColumnKind}
 use Rattle.lara_data.specs.declared.table_type.ColumnKind.TheVariants.{Key, Val}
 use Rattle.lara_data.specs.declared.table_type.KeyCol.{KeyCol}
 use Rattle.lara_data.specs.declared.table_type.ValCol.{ValCol}
-use Rattle.lara_data.specs.TableTypes.{Columns, key_names, most_columns}
-use Rattle.lara_data.specs.Names.{Name, same_name, among, distinct}
+use Rattle.lara_data.specs.TableTypes.{Columns, key_names, column_names, most_columns}
+use Rattle.lara_data.specs.Names.{Name, same_name, has, among, distinct}
 use Rattle.lara_semiring.specs.Values.{same_val_type}
 use Rattle.lara_data.specs.Vals.{Vals}
 use Rattle.lara_data.specs.Algebra.{common_vals, join_columns, union_columns, agg_columns}
+use Rattle.lara_data.specs.Extensions.{each_columns, renamed_columns}
+use Rattle.lara_data.specs.ExprTypes.{ExprTyping, key_expr_type, val_expr_type, same_expr_type, expr_type}
+use Rattle.lara_data.specs.declared.arg.Def.{Def}
+use Rattle.lara_data.specs.declared.arg.KeyDef.{KeyDef}
+use Rattle.lara_data.specs.declared.arg.NamePair.{NamePair}
+use Rattle.lara_data.specs.declared.expr.Expr.{Expr}
+use Rattle.lara_data.specs.declared.expr_val.ExprType.{ExprType}
+use Rattle.lara_data.specs.declared.expr_val.ExprType.TheVariants.{Flag}
+use Rattle.lara_data.specs.declared.order.EachOp.{EachOp}
+use Rattle.lara_data.specs.declared.order.EachOp.TheVariants as each
+use Rattle.lara_base.specs.Results.{◌>>=◌}
 
 -- the columns of an operator's result, or the kind of the first rule that is broken
 abbrev pub Typing : Type 0
@@ -82,3 +93,71 @@ agg_type a ks =
     if among (key_names a.keys) ks
     then (if distinct ks then Ok (agg_columns a ks) else Err NameTwice)
     else Err NotAKey
+
+-- ---- expressions
+
+-- the types of a map's expressions, or the kind of the first rule that one breaks
+unfoldable pub def_types : Columns → List Def → Result (List ExprType) Kind
+def_types a [] = Ok []
+def_types a (d ∷ ds) = do
+  t ← expr_type a d.expr
+  ts ← def_types a ds
+  Ok (t ∷ ts)
+
+-- each expression is of its column's type
+unfoldable pub defs_fit : List Def → List ExprType → Bool
+defs_fit (d ∷ ds) (t ∷ ts) = same_expr_type (val_expr_type d.col.ty) t && defs_fit ds ts
+defs_fit ds ts = true
+
+-- the names that a map defines
+abbrev pub def_names : List Def → List Name
+def_names ds = map (λ d. d.col.name) ds
+
+-- the rules of a map's types, behind those of its expressions
+abbrev pub map_fits : Columns → List Def → List ExprType → Typing
+map_fits a ds ts = if defs_fit ds ts then few_enough (each_columns (each.Map ds) a) else Err TypesDiffer
+
+-- a map of one definition at least: no defined name is a key column's or stands twice, each expression has a type, each is
+-- of its column's type, and the columns are few enough
+unfoldable pub map_type : Columns → List Def → Typing
+map_type a ds = if distinct (key_names a.keys ++ def_names ds) then (def_types a ds >>= map_fits a ds) else Err NameTwice
+
+-- a filter: its test has a type, and is a flag
+unfoldable pub filter_type : Columns → Expr → Typing
+filter_type a e = do
+  t ← expr_type a e
+  if same_expr_type t Flag then Ok a else Err TypesDiffer
+
+-- the rules of a promote's type, behind those of its expression
+abbrev pub promote_fits : Columns → KeyDef → ExprType → Typing
+promote_fits a d t = if same_expr_type (key_expr_type d.col.ty) t then few_enough (each_columns (each.Promote d) a) else Err TypesDiffer
+
+-- a promote: its name is no column's, its expression has a type, which is its column's, and the columns are few enough
+unfoldable pub promote_type : Columns → KeyDef → Typing
+promote_type a d = if has (column_names a.keys a.vals) d.col.name then Err NameTwice else (expr_type a d.expr >>= promote_fits a d)
+
+-- ---- names
+
+-- the names that a rename replaces
+abbrev pub old_names : List NamePair → List Name
+old_names ps = map (λ p. p.old) ps
+
+-- the names of all columns, keys first
+abbrev pub names_of : Columns → List Name
+names_of c = column_names c.keys c.vals
+
+-- a rename: each old name is a column's, none stands twice, and no two columns get one name
+unfoldable pub rename_type : Columns → List NamePair → Typing
+rename_type a ps =
+    if among (names_of a) (old_names ps)
+    then (if distinct (old_names ps) && distinct (names_of (renamed_columns ps a)) then Ok (renamed_columns ps a) else Err NameTwice)
+    else Err NoName
+
+-- ---- extensions
+
+-- the extension has these columns over a table's by its rules; applies, which ask the plugins, have none yet
+abbrev pub EachTyped : Columns → EachOp → Columns → Type 0
+EachTyped a (each.Map ds) ty = (0 < length ds) × (map_type a ds ≡ Ok ty)
+EachTyped a (each.Filter e) ty = filter_type a e ≡ Ok ty
+EachTyped a (each.Promote d) ty = promote_type a d ≡ Ok ty
+EachTyped a (each.Apply call) ty = ⊥

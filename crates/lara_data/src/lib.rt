@@ -6,6 +6,7 @@ mod arg;
 mod columns;
 mod entry;
 mod expr;
+mod expr_val;
 mod faults;
 mod limits;
 mod node;
@@ -25,6 +26,7 @@ pub use columns::{
 };
 pub use entry::{Cell, Entry, Keyed};
 pub use expr::{Expr, FunOp, TwoOp};
+pub use expr_val::{ExprType, ExprVal, key_expr_type, same_expr_type, val_expr_type};
 pub use faults::{FileFault, IterFault};
 pub use limits::MAX_COLS;
 pub use node::{Node, Op};
