@@ -1,5 +1,5 @@
 -- Where no part of an expression is a text or a path, neither is what it comes to.
-use Rattle.std.specs.Prelude.{◌≡◌, ℕ, Bool, true, false, cond, ◌&&◌, ◌||◌, List, [], ◌∷◌, Option, Some, None}
+use Rattle.std.specs.Prelude.{◌≡◌, ℕ, Bool, true, false, cond, ◌&&◌, ◌||◌, List, [], ◌∷◌, Option, Some}
 use Rattle.std.proofs.Common.{refl}
 use Rattle.std.proofs.lemmas.Bool.{and_parts}
 use Rattle.std.specs.Option.{option_or}
@@ -13,7 +13,7 @@ use Rattle.lara_semiring.specs.declared.value.ValType.TheVariants as val_type
 use Rattle.lara_semiring.specs.declared.value.Value.{Value}
 use Rattle.lara_semiring.specs.declared.value.Value.TheVariants as value
 use Rattle.lara_semiring.specs.Values.{has_type}
-use Rattle.lara_semiring.specs.Rows.{first, rest, row_has}
+use Rattle.lara_semiring.specs.Rows.{row_has}
 use Rattle.lara_data.specs.declared.table_type.KeyCol.{KeyCol}
 use Rattle.lara_data.specs.declared.table_type.ValCol.{ValCol}
 use Rattle.lara_data.specs.declared.expr.Expr.{Expr}

@@ -11,3 +11,5 @@ mod operators;
 pub use convert::{to_key, to_val};
 pub use evaluation::eval;
 
+#[cfg(test)]
+mod tests;

@@ -108,12 +108,7 @@ fn concatenation(alloc: Global, a: ExprVal, b: ExprVal) -> Result<ExprVal, Alloc
 }
 
 /// What an operator makes of two values.
-pub fn two_value(
-    alloc: Global,
-    op: TwoOp,
-    a: ExprVal,
-    b: ExprVal,
-) -> Result<ExprVal, AllocError>
+pub fn two_value(alloc: Global, op: TwoOp, a: ExprVal, b: ExprVal) -> Result<ExprVal, AllocError>
     ensures value { IfOk result (λ v. v ≡ two_value op a b) }
     ensures exact { is_plain_val a ≡ true → IsOk result }
 {
