@@ -72,7 +72,7 @@ type_found kind None t h = cc
 type_found kind (Some u) t h = let e : u ≡ t = cc in ap Some e
 
 -- both steps were taken
-steps : {A B E : Type 0} (r : Result A E) (f : A → Result B E) (y : B) → (r >>= f) ≡ Ok y → (x : A) × (r ≡ Ok x) × (f x ≡ Ok y)
+pub steps : {A B E : Type 0} (r : Result A E) (f : A → Result B E) (y : B) → (r >>= f) ≡ Ok y → (x : A) × (r ≡ Ok x) × (f x ≡ Ok y)
 steps (Ok x) f y e = (x, refl, e)
 steps (Err d) f y e = cc
 
