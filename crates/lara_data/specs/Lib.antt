@@ -13,8 +13,11 @@ pub mod Databases
 pub mod Denotations
 pub mod DistinctColumns
 pub mod DistinctNames
+pub mod ExprColumns
+pub mod ExprLaws
 pub mod ExprTypes
 pub mod ExprValues
+pub mod ExtensionLaws
 pub mod Extensions
 pub mod Fits
 pub mod Headings
