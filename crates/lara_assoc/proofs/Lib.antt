@@ -1,4 +1,5 @@
 pub mod ColumnFacts
+pub mod EachFacts
 pub mod GroupFacts
 pub mod JoinFacts
 pub mod MapFacts

@@ -1,5 +1,5 @@
 -- The operands of a tree that is meant are meant, and what is made of their tables is what the tree means.
-use Rattle.std.proofs.Common.{◌≡◌, List, Ok, sym, ap, ◌∙◌, refl}
+use Rattle.std.proofs.Common.{◌≡◌, ◌<◌, List, length, Ok, sym, ap, ◌∙◌, refl}
 use Rattle.std.proofs.Math.Path.{subst}
 use Rattle.lara_data.specs.declared.node.Node.{Node}
 use Rattle.lara_data.specs.declared.node.Op.{Op}
@@ -13,14 +13,16 @@ use Rattle.lara_data.specs.declared.expr.Expr.{Expr}
 use Rattle.lara_data.specs.Names.{Name}
 use Rattle.lara_data.specs.Tables.{Entries, Table, table_of}
 use Rattle.lara_data.specs.Algebra.{join_columns, join_tables, union_tables, agg_table}
-use Rattle.lara_data.specs.TypeRules.{join_type, union_type, agg_type}
+use Rattle.lara_data.specs.declared.order.EachOp.TheVariants as each
+use Rattle.lara_data.specs.Extensions.{ext, renamed}
+use Rattle.lara_data.specs.TypeRules.{join_type, union_type, agg_type, map_type, promote_type, rename_type}
 use Rattle.lara_data.specs.Plugins.{Plugins}
 use Rattle.lara_data.specs.Denotations.{NamedTable, Database, table_named, table_or_empty, meaning, meaning_of}
 use Rattle.lara_data.specs.Fits.{OpFits}
 use Rattle.lara_data.specs.TypedTrees.{OpTyped, IsLiteral}
 use Rattle.lara_data.specs.MeaningLaws.{IsTableOf-meaning}
-use Rattle.lara_data.proofs.FitEquations.{fits_Join, fits_Union, fits_Agg}
-use Rattle.lara_data.proofs.MeaningEquations.{meaning_Load, meaning_Named, meaning_Literal, meaning_Join, meaning_Union, meaning_Agg}
+use Rattle.lara_data.proofs.FitEquations.{fits_Join, fits_Union, fits_Agg, fits_Map, fits_Filter, fits_Promote, fits_Rename}
+use Rattle.lara_data.proofs.MeaningEquations.{meaning_Load, meaning_Named, meaning_Literal, meaning_Join, meaning_Union, meaning_Agg, meaning_Map, meaning_Filter, meaning_Promote, meaning_Rename}
 use Rattle.lara_data.proofs.TypedEquations.{typed_Literal, typed_Join, typed_Union, typed_Agg, typed_Map, typed_Filter, typed_Promote, typed_Rename, typed_Apply}
 use Rattle.lara_assoc.specs.Meant.{IsMeant}
 
@@ -118,18 +120,68 @@ module _ (ps : Plugins) (db : Database) (tables : List NamedTable) where
   unfolding join_tables
   agg_join_typed node a x l r y z ks s t e i o p q h u v = agg_typed node a x ks (join_tables s t) e i h (join_means x l r y z s t o p q u v)
 
+  -- maps
+  pub map_below : (node a x : Node) (ds : List Def) → node.op ≡ Map a ds → x ≡ a → IsMeant ps db tables node → IsMeant ps db tables x
+  map_below node a x ds e i h =
+      let t = typed_as h.known node (Map a ds) _ e (typed_Map h.known a ds node.ty) h.typed in
+      let f = fits_as ps db node (Map a ds) _ e (fits_Map ps db a ds node.ty) h.fits in
+      subst (IsMeant ps db tables) (sym i) (record { known = h.known; stands = h.stands; typed = t.2; fits = f })
+
+  pub map_means : (node a x : Node) (ds : List Def) (l : Table) → node.op ≡ Map a ds → x ≡ a → l ≡ meaning_of ps db tables x → ext ps (each.Map ds) l ≡ meaning_of ps db tables node
+  map_means node a x ds l e i p =
+      ap (λ (t : Table). ext ps (each.Map ds) t) (p ∙ ap (meaning_of ps db tables) i) ∙ sym (meaning_Map ps db tables a ds node.ty) ∙ from_op node (Map a ds) e
+
+  pub map_some : (node a : Node) (ds : List Def) → node.op ≡ Map a ds → IsMeant ps db tables node → 0 < length ds
+  map_some node a ds e h = (typed_as h.known node (Map a ds) _ e (typed_Map h.known a ds node.ty) h.typed).0
+
+  pub map_typed : (node a x : Node) (ds : List Def) (l : Table) → node.op ≡ Map a ds → x ≡ a → IsMeant ps db tables node → l ≡ meaning_of ps db tables x → map_type l.ty ds ≡ Ok node.ty
+  map_typed node a x ds l e i h p =
+      let t = typed_as h.known node (Map a ds) _ e (typed_Map h.known a ds node.ty) h.typed in
+      (λ k. map_type (its_columns a x l i p (map_below node a a ds e refl h) k) ds) ∙ t.1
+
+  -- filters
+  pub filter_below : (node a x : Node) (test : Expr) → node.op ≡ Filter a test → x ≡ a → IsMeant ps db tables node → IsMeant ps db tables x
+  filter_below node a x test e i h =
+      let t = typed_as h.known node (Filter a test) _ e (typed_Filter h.known a test node.ty) h.typed in
+      let f = fits_as ps db node (Filter a test) _ e (fits_Filter ps db a test node.ty) h.fits in
+      subst (IsMeant ps db tables) (sym i) (record { known = h.known; stands = h.stands; typed = t.1; fits = f })
+
+  pub filter_means : (node a x : Node) (test : Expr) (l : Table) → node.op ≡ Filter a test → x ≡ a → l ≡ meaning_of ps db tables x → ext ps (each.Filter test) l ≡ meaning_of ps db tables node
+  filter_means node a x test l e i p =
+      ap (λ (t : Table). ext ps (each.Filter test) t) (p ∙ ap (meaning_of ps db tables) i) ∙ sym (meaning_Filter ps db tables a test node.ty) ∙ from_op node (Filter a test) e
+
+  -- promotes
+  pub promote_below : (node a x : Node) (d : KeyDef) → node.op ≡ Promote a d → x ≡ a → IsMeant ps db tables node → IsMeant ps db tables x
+  promote_below node a x d e i h =
+      let t = typed_as h.known node (Promote a d) _ e (typed_Promote h.known a d node.ty) h.typed in
+      let f = fits_as ps db node (Promote a d) _ e (fits_Promote ps db a d node.ty) h.fits in
+      subst (IsMeant ps db tables) (sym i) (record { known = h.known; stands = h.stands; typed = t.1; fits = f })
+
+  pub promote_means : (node a x : Node) (d : KeyDef) (l : Table) → node.op ≡ Promote a d → x ≡ a → l ≡ meaning_of ps db tables x → ext ps (each.Promote d) l ≡ meaning_of ps db tables node
+  promote_means node a x d l e i p =
+      ap (λ (t : Table). ext ps (each.Promote d) t) (p ∙ ap (meaning_of ps db tables) i) ∙ sym (meaning_Promote ps db tables a d node.ty) ∙ from_op node (Promote a d) e
+
+  pub promote_typed : (node a x : Node) (d : KeyDef) (l : Table) → node.op ≡ Promote a d → x ≡ a → IsMeant ps db tables node → l ≡ meaning_of ps db tables x → promote_type l.ty d ≡ Ok node.ty
+  promote_typed node a x d l e i h p =
+      let t = typed_as h.known node (Promote a d) _ e (typed_Promote h.known a d node.ty) h.typed in
+      (λ k. promote_type (its_columns a x l i p (promote_below node a a d e refl h) k) d) ∙ t.0
+
+  -- renames
+  pub rename_below : (node a x : Node) (ns : List NamePair) → node.op ≡ Rename a ns → x ≡ a → IsMeant ps db tables node → IsMeant ps db tables x
+  rename_below node a x ns e i h =
+      let t = typed_as h.known node (Rename a ns) _ e (typed_Rename h.known a ns node.ty) h.typed in
+      let f = fits_as ps db node (Rename a ns) _ e (fits_Rename ps db a ns node.ty) h.fits in
+      subst (IsMeant ps db tables) (sym i) (record { known = h.known; stands = h.stands; typed = t.1; fits = f })
+
+  pub rename_means : (node a x : Node) (ns : List NamePair) (l : Table) → node.op ≡ Rename a ns → x ≡ a → l ≡ meaning_of ps db tables x → renamed ns l ≡ meaning_of ps db tables node
+  rename_means node a x ns l e i p =
+      ap (λ (t : Table). renamed ns t) (p ∙ ap (meaning_of ps db tables) i) ∙ sym (meaning_Rename ps db tables a ns node.ty) ∙ from_op node (Rename a ns) e
+
+  pub rename_typed : (node a x : Node) (ns : List NamePair) (l : Table) → node.op ≡ Rename a ns → x ≡ a → IsMeant ps db tables node → l ≡ meaning_of ps db tables x → rename_type l.ty ns ≡ Ok node.ty
+  rename_typed node a x ns l e i h p =
+      let t = typed_as h.known node (Rename a ns) _ e (typed_Rename h.known a ns node.ty) h.typed in
+      (λ k. rename_type (its_columns a x l i p (rename_below node a a ns e refl h) k) ns) ∙ t.0
+
   -- no tree that is meant has an operator without a type
-  pub no_map : (node a : Node) (ds : List Def) → node.op ≡ Map a ds → IsMeant ps db tables node → ⊥
-  no_map node a ds e h = typed_as h.known node (Map a ds) ⊥ e (typed_Map h.known a ds node.ty) h.typed
-
-  pub no_filter : (node a : Node) (x : Expr) → node.op ≡ Filter a x → IsMeant ps db tables node → ⊥
-  no_filter node a x e h = typed_as h.known node (Filter a x) ⊥ e (typed_Filter h.known a x node.ty) h.typed
-
-  pub no_promote : (node a : Node) (d : KeyDef) → node.op ≡ Promote a d → IsMeant ps db tables node → ⊥
-  no_promote node a d e h = typed_as h.known node (Promote a d) ⊥ e (typed_Promote h.known a d node.ty) h.typed
-
-  pub no_rename : (node a : Node) (ns : List NamePair) → node.op ≡ Rename a ns → IsMeant ps db tables node → ⊥
-  no_rename node a ns e h = typed_as h.known node (Rename a ns) ⊥ e (typed_Rename h.known a ns node.ty) h.typed
-
   pub no_apply : (node a : Node) (c : Call) → node.op ≡ Apply a c → IsMeant ps db tables node → ⊥
   no_apply node a c e h = typed_as h.known node (Apply a c) ⊥ e (typed_Apply h.known a c node.ty) h.typed

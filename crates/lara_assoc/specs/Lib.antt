@@ -1,3 +1,4 @@
+pub mod EachEntries
 pub mod EntryLists
 pub mod Groups
 pub mod JoinColumns

@@ -98,6 +98,17 @@ impl Assoc {
         Assoc::total(alloc, ty, &entries)
     }
 
+    /// The same entries under other columns, of whose types they are to be. The map is shared.
+    pub(crate) fn with_columns(&self, ty: TableType) -> Result<Assoc, AllocError>
+        requires { IsTypedTable (record { ty = ty; entries = self.now.entries }) }
+        ensures { IfOk result (λ a. a ≡ record { ty = ty; entries = self.now.entries }) }
+    {
+        Ok(Assoc {
+            ty,
+            rows: self.rows.clone()?,
+        })
+    }
+
     /// The named columns, of whose types keys and rows are.
     pub fn ty(&self) -> &TableType
         ensures columns { result.now ≡ self.now.ty }

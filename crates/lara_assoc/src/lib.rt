@@ -4,11 +4,13 @@
 mod aggs;
 mod assigned;
 mod assoc;
+mod extensions;
 mod groups;
 mod joins;
 mod keys;
 mod named;
 mod range;
+mod renames;
 mod rows;
 mod scripts;
 mod sums;
@@ -17,8 +19,10 @@ mod unions;
 
 pub use aggs::agg;
 pub use assoc::Assoc;
+pub use extensions::ext;
 pub use joins::join;
 pub use named::{Answers, NamedTable, Printed, Stored};
+pub use renames::rename;
 pub use scripts::eval;
 pub use unions::union;
 

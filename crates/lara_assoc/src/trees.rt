@@ -8,8 +8,10 @@ ghost use Rattle.lara_assoc.specs.Newest.{HasNewest};
 use crate::aggs::agg;
 use crate::assigned::Assigned;
 use crate::assoc::Assoc;
+use crate::extensions::{filter_table, map_table, promote_table};
 use crate::joins::{agg_of_join, join};
 use crate::named::{NamedTable, copy_named};
+use crate::renames::rename;
 use crate::unions::union;
 use lara_base::List;
 use lara_data::{Node, Op, Plugin};
@@ -50,11 +52,23 @@ pub fn table_of(
             let table = table_of(alloc, plugins, db, tables, a.get())?;
             agg(alloc, &table, keys)
         }
+        Op::Map(a, defs) => {
+            let table = table_of(alloc, plugins, db, tables, a.get())?;
+            map_table(alloc, &table, defs)
+        }
+        Op::Filter(a, test) => {
+            let table = table_of(alloc, plugins, db, tables, a.get())?;
+            filter_table(alloc, &table, test)
+        }
+        Op::Promote(a, def) => {
+            let table = table_of(alloc, plugins, db, tables, a.get())?;
+            promote_table(alloc, &table, def)
+        }
+        Op::Rename(a, pairs) => {
+            let table = table_of(alloc, plugins, db, tables, a.get())?;
+            rename(alloc, &table, pairs)
+        }
         // no words yet: these are in no script
-        Op::Map(_, _) => Assoc::empty(alloc, &node.ty),
-        Op::Filter(_, _) => Assoc::empty(alloc, &node.ty),
-        Op::Promote(_, _) => Assoc::empty(alloc, &node.ty),
-        Op::Rename(_, _) => Assoc::empty(alloc, &node.ty),
         Op::Apply(_, _) => Assoc::empty(alloc, &node.ty),
     }
 }

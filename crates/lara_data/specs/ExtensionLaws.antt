@@ -175,7 +175,8 @@ rename_are_columns a ps p d =
 
 -- ---- the entries are of the types
 
-computed_has : (a : Columns) (ds : List Def) (ts : List ExprType) (k : Tuple) (row : Row) → KeyHas a.keys k → row_has (types a.vals) row ≡ true → def_types a ds ≡ Ok ts → defs_fit ds ts ≡ true → row_has (types (map {A = Def} (λ d. d.col) ds)) (map {A = Def} (λ d. to_val d.col.ty (value_of a k row d.expr)) ds) ≡ true
+-- a row of what a map computes is of the types of its columns
+pub computed_has : (a : Columns) (ds : List Def) (ts : List ExprType) (k : Tuple) (row : Row) → KeyHas a.keys k → row_has (types a.vals) row ≡ true → def_types a ds ≡ Ok ts → defs_fit ds ts ≡ true → row_has (types (map {A = Def} (λ d. d.col) ds)) (map {A = Def} (λ d. to_val d.col.ty (value_of a k row d.expr)) ds) ≡ true
 unfolding def_types defs_fit row_has
 computed_has a [] ts k row h r e f = refl
 computed_has a (d ∷ ds) ts k row h r e f =

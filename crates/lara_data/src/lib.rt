@@ -30,7 +30,9 @@ pub use expr_val::{ExprType, ExprVal, key_expr_type, same_expr_type, val_expr_ty
 pub use faults::{FileFault, IterFault};
 pub use limits::MAX_COLS;
 pub use node::{Node, Op};
-pub use op_columns::{agg_columns, join_columns, union_columns};
+pub use op_columns::{
+    agg_columns, join_columns, map_columns, promote_columns, renamed_columns, union_columns,
+};
 pub use order::{EachOp, Order};
 pub use plugin::Plugin;
 pub use refusal::{Kind, ReadFault, Refusal};

@@ -10,6 +10,7 @@ mod operators;
 
 pub use convert::{to_key, to_val};
 pub use evaluation::eval;
+pub use operators::is_true;
 
 #[cfg(test)]
 mod tests;
