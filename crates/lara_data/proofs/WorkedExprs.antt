@@ -20,7 +20,7 @@ use Rattle.lara_data.specs.KeyedTables.{Row}
 use Rattle.lara_data.specs.TableTypes.{Columns}
 use Rattle.lara_data.specs.Names.{Name, Tuple, same_name, has, read}
 use Rattle.lara_data.specs.ExprTypes.{ExprTyping, key_column_type, val_column_type, expr_type}
-use Rattle.lara_data.specs.ExprValues.{row_column, value_of}
+use Rattle.lara_data.specs.ExprValues.{row_column, value_of, to_key, to_val}
 
 i : Name
 i = 105 ∷ []
@@ -59,6 +59,16 @@ worth e = value_of columns tuple row e
 
 typing : Expr → ExprTyping
 typing e = expr_type columns e
+
+-- an entry with all that can be past its range: over,over:over,over,over,false
+far_tuple : Tuple
+far_tuple = key.Nat 18446744073709551615 ∷ key.Text text.Over ∷ []
+
+far_row : Row
+far_row = value.Count 18446744073709551615 ∷ value.MinPlus 18446744073709551614 ∷ value.Path path.Over ∷ value.Flag false ∷ []
+
+far : Expr → ExprVal
+far e = value_of columns far_tuple far_row e
 
 b : Expr
 b = Text (98 ∷ [])
@@ -237,6 +247,129 @@ module _ where
   unfolding i s v d p f b most_number columns tuple row worth value_of row_column same_name has read denote.Hole.Carrier.hidden Rattle.lara_data.specs.declared.expr.Expr.TheBlock.hidden-the_row-Expr-0
   text_of_none = refl
 
+-- ---- values past their range
+
+module _ where
+  -- len(s) of a text past its range
+  len_of_past : far (Fun fun.Len (Column s)) ≡ val.Number 18446744073709551615
+  unfolding i s v d p f b most_number columns tuple row far_tuple far_row far worth value_of row_column same_name has read denote.Hole.Carrier.hidden Rattle.lara_data.specs.declared.expr.Expr.TheBlock.hidden-the_row-Expr-0
+  len_of_past = refl
+
+  -- path(s)
+  path_of_past : far (Fun fun.Path (Column s)) ≡ val.Path path.Over
+  unfolding i s v d p f b most_number columns tuple row far_tuple far_row far worth value_of row_column same_name has read denote.Hole.Carrier.hidden Rattle.lara_data.specs.declared.expr.Expr.TheBlock.hidden-the_row-Expr-0
+  path_of_past = refl
+
+  -- text(p) of a path past its range
+  text_of_past : far (Fun fun.Text (Column p)) ≡ val.Text text.Over
+  unfolding i s v d p f b most_number columns tuple row far_tuple far_row far worth value_of row_column same_name has read denote.Hole.Carrier.hidden Rattle.lara_data.specs.declared.expr.Expr.TheBlock.hidden-the_row-Expr-0
+  text_of_past = refl
+
+  -- num(d) of a distance past its range
+  num_of_far : far (Fun fun.Num (Column d)) ≡ val.Number 18446744073709551615
+  unfolding i s v d p f b most_number columns tuple row far_tuple far_row far worth value_of row_column same_name has read denote.Hole.Carrier.hidden Rattle.lara_data.specs.declared.expr.Expr.TheBlock.hidden-the_row-Expr-0
+  num_of_far = refl
+
+  -- dist(v) of a number past its range
+  dist_of_past : far (Fun fun.Dist (Column v)) ≡ val.MinPlus 18446744073709551614
+  unfolding i s v d p f b most_number columns tuple row far_tuple far_row far worth value_of row_column same_name has read denote.Hole.Carrier.hidden Rattle.lara_data.specs.declared.expr.Expr.TheBlock.hidden-the_row-Expr-0
+  dist_of_past = refl
+
+  -- num(f)
+  num_of_false : far (Fun fun.Num (Column f)) ≡ val.Number 0
+  unfolding i s v d p f b most_number columns tuple row far_tuple far_row far worth value_of row_column same_name has read denote.Hole.Carrier.hidden Rattle.lara_data.specs.declared.expr.Expr.TheBlock.hidden-the_row-Expr-0
+  num_of_false = refl
+
+  -- "b" ++ s
+  past_behind : far (Two two.Cat b (Column s)) ≡ val.Text text.Over
+  unfolding i s v d p f b most_number columns tuple row far_tuple far_row far worth value_of row_column same_name has read denote.Hole.Carrier.hidden Rattle.lara_data.specs.declared.expr.Expr.TheBlock.hidden-the_row-Expr-0
+  past_behind = refl
+
+  -- s ++ "b"
+  past_before : far (Two two.Cat (Column s) b) ≡ val.Text text.Over
+  unfolding i s v d p f b most_number columns tuple row far_tuple far_row far worth value_of row_column same_name has read denote.Hole.Carrier.hidden Rattle.lara_data.specs.declared.expr.Expr.TheBlock.hidden-the_row-Expr-0
+  past_before = refl
+
+  -- "b" < s: past its range is behind every text
+  past_last : far (Two two.Lt b (Column s)) ≡ val.Flag true
+  unfolding i s v d p f b most_number columns tuple row far_tuple far_row far worth value_of row_column same_name has read denote.Hole.Carrier.hidden Rattle.lara_data.specs.declared.expr.Expr.TheBlock.hidden-the_row-Expr-0
+  past_last = refl
+
+  -- s == s
+  past_is_past : far (Two two.Eq (Column s) (Column s)) ≡ val.Flag true
+  unfolding i s v d p f b most_number columns tuple row far_tuple far_row far worth value_of row_column same_name has read denote.Hole.Carrier.hidden Rattle.lara_data.specs.declared.expr.Expr.TheBlock.hidden-the_row-Expr-0
+  past_is_past = refl
+
+  -- the greatest number is before what is past its range
+  past_greatest : far (Two two.Lt most_number (Column i)) ≡ val.Flag true
+  unfolding i s v d p f b most_number columns tuple row far_tuple far_row far worth value_of row_column same_name has read denote.Hole.Carrier.hidden Rattle.lara_data.specs.declared.expr.Expr.TheBlock.hidden-the_row-Expr-0
+  past_greatest = refl
+
+  -- d < inf: past its range is before no way at all
+  far_before_inf : far (Two two.Lt (Column d) Inf) ≡ val.Flag true
+  unfolding i s v d p f b most_number columns tuple row far_tuple far_row far worth value_of row_column same_name has read denote.Hole.Carrier.hidden Rattle.lara_data.specs.declared.expr.Expr.TheBlock.hidden-the_row-Expr-0
+  far_before_inf = refl
+
+  -- d > dist(7)
+  far_behind : far (Two two.Gt (Column d) (Fun fun.Dist (Number 7))) ≡ val.Flag true
+  unfolding i s v d p f b most_number columns tuple row far_tuple far_row far worth value_of row_column same_name has read denote.Hole.Carrier.hidden Rattle.lara_data.specs.declared.expr.Expr.TheBlock.hidden-the_row-Expr-0
+  far_behind = refl
+
+  -- p < none
+  path_before_none : far (Two two.Lt (Column p) None) ≡ val.Flag true
+  unfolding i s v d p f b most_number columns tuple row far_tuple far_row far worth value_of row_column same_name has read denote.Hole.Carrier.hidden Rattle.lara_data.specs.declared.expr.Expr.TheBlock.hidden-the_row-Expr-0
+  path_before_none = refl
+
+  -- p >= path("b")
+  path_behind : far (Two two.Ge (Column p) (Fun fun.Path b)) ≡ val.Flag true
+  unfolding i s v d p f b most_number columns tuple row far_tuple far_row far worth value_of row_column same_name has read denote.Hole.Carrier.hidden Rattle.lara_data.specs.declared.expr.Expr.TheBlock.hidden-the_row-Expr-0
+  path_behind = refl
+
+  -- v + 1
+  sum_stays_past : far (Two two.Add (Column v) (Number 1)) ≡ val.Number 18446744073709551615
+  unfolding i s v d p f b most_number columns tuple row far_tuple far_row far worth value_of row_column same_name has read denote.Hole.Carrier.hidden Rattle.lara_data.specs.declared.expr.Expr.TheBlock.hidden-the_row-Expr-0
+  sum_stays_past = refl
+
+  -- v * 2
+  product_stays_past : far (Two two.Mul (Column v) (Number 2)) ≡ val.Number 18446744073709551615
+  unfolding i s v d p f b most_number columns tuple row far_tuple far_row far worth value_of row_column same_name has read denote.Hole.Carrier.hidden Rattle.lara_data.specs.declared.expr.Expr.TheBlock.hidden-the_row-Expr-0
+  product_stays_past = refl
+
+  -- d + inf
+  lesser_than_far : far (Two two.Add (Column d) Inf) ≡ val.MinPlus 18446744073709551614
+  unfolding i s v d p f b most_number columns tuple row far_tuple far_row far worth value_of row_column same_name has read denote.Hole.Carrier.hidden Rattle.lara_data.specs.declared.expr.Expr.TheBlock.hidden-the_row-Expr-0
+  lesser_than_far = refl
+
+  -- d * dist(7)
+  further_than_far : far (Two two.Mul (Column d) (Fun fun.Dist (Number 7))) ≡ val.MinPlus 18446744073709551614
+  unfolding i s v d p f b most_number columns tuple row far_tuple far_row far worth value_of row_column same_name has read denote.Hole.Carrier.hidden Rattle.lara_data.specs.declared.expr.Expr.TheBlock.hidden-the_row-Expr-0
+  further_than_far = refl
+
+  -- p * path("b")
+  behind_past : far (Two two.Mul (Column p) (Fun fun.Path b)) ≡ val.Path path.Over
+  unfolding i s v d p f b most_number columns tuple row far_tuple far_row far worth value_of row_column same_name has read denote.Hole.Carrier.hidden Rattle.lara_data.specs.declared.expr.Expr.TheBlock.hidden-the_row-Expr-0
+  behind_past = refl
+
+  -- none * p
+  behind_none : far (Two two.Mul None (Column p)) ≡ val.Path path.Absent
+  unfolding i s v d p f b most_number columns tuple row far_tuple far_row far worth value_of row_column same_name has read denote.Hole.Carrier.hidden Rattle.lara_data.specs.declared.expr.Expr.TheBlock.hidden-the_row-Expr-0
+  behind_none = refl
+
+  -- p + path("b")
+  least_path : far (Two two.Add (Column p) (Fun fun.Path b)) ≡ val.Path (path.Within (98 ∷ []))
+  unfolding i s v d p f b most_number columns tuple row far_tuple far_row far worth value_of row_column same_name has read denote.Hole.Carrier.hidden Rattle.lara_data.specs.declared.expr.Expr.TheBlock.hidden-the_row-Expr-0
+  least_path = refl
+
+  -- f or false
+  neither : far (Two two.Or (Column f) (Flag false)) ≡ val.Flag false
+  unfolding i s v d p f b most_number columns tuple row far_tuple far_row far worth value_of row_column same_name has read denote.Hole.Carrier.hidden Rattle.lara_data.specs.declared.expr.Expr.TheBlock.hidden-the_row-Expr-0
+  neither = refl
+
+  -- f != true
+  unequal : far (Two two.Ne (Column f) (Flag true)) ≡ val.Flag true
+  unfolding i s v d p f b most_number columns tuple row far_tuple far_row far worth value_of row_column same_name has read denote.Hole.Carrier.hidden Rattle.lara_data.specs.declared.expr.Expr.TheBlock.hidden-the_row-Expr-0
+  unequal = refl
+
 -- ---- types
 
 module _ where
@@ -309,3 +442,225 @@ module _ where
   no_number_of_text : typing (Fun fun.Num (Column s)) ≡ Err TypesDiffer
   unfolding i s v d p f b most_number columns typing expr_type key_column_type val_column_type same_name is_content denote.Hole.Carrier.hidden Rattle.lara_data.specs.declared.expr.Expr.TheBlock.hidden-the_row-Expr-0
   no_number_of_text = refl
+
+  -- v + v
+  sum_of_numbers : typing (Two two.Add (Column v) (Column v)) ≡ Ok type.Number
+  unfolding i s v d p f b most_number columns typing expr_type key_column_type val_column_type same_name is_content denote.Hole.Carrier.hidden Rattle.lara_data.specs.declared.expr.Expr.TheBlock.hidden-the_row-Expr-0
+  sum_of_numbers = refl
+
+  -- v * v
+  product_of_numbers : typing (Two two.Mul (Column v) (Column v)) ≡ Ok type.Number
+  unfolding i s v d p f b most_number columns typing expr_type key_column_type val_column_type same_name is_content denote.Hole.Carrier.hidden Rattle.lara_data.specs.declared.expr.Expr.TheBlock.hidden-the_row-Expr-0
+  product_of_numbers = refl
+
+  -- d + d
+  sum_of_distances : typing (Two two.Add (Column d) (Column d)) ≡ Ok type.MinPlus
+  unfolding i s v d p f b most_number columns typing expr_type key_column_type val_column_type same_name is_content denote.Hole.Carrier.hidden Rattle.lara_data.specs.declared.expr.Expr.TheBlock.hidden-the_row-Expr-0
+  sum_of_distances = refl
+
+  -- d * d
+  product_of_distances : typing (Two two.Mul (Column d) (Column d)) ≡ Ok type.MinPlus
+  unfolding i s v d p f b most_number columns typing expr_type key_column_type val_column_type same_name is_content denote.Hole.Carrier.hidden Rattle.lara_data.specs.declared.expr.Expr.TheBlock.hidden-the_row-Expr-0
+  product_of_distances = refl
+
+  -- p + p
+  sum_of_paths : typing (Two two.Add (Column p) (Column p)) ≡ Ok type.Path
+  unfolding i s v d p f b most_number columns typing expr_type key_column_type val_column_type same_name is_content denote.Hole.Carrier.hidden Rattle.lara_data.specs.declared.expr.Expr.TheBlock.hidden-the_row-Expr-0
+  sum_of_paths = refl
+
+  -- p * p
+  product_of_paths : typing (Two two.Mul (Column p) (Column p)) ≡ Ok type.Path
+  unfolding i s v d p f b most_number columns typing expr_type key_column_type val_column_type same_name is_content denote.Hole.Carrier.hidden Rattle.lara_data.specs.declared.expr.Expr.TheBlock.hidden-the_row-Expr-0
+  product_of_paths = refl
+
+  -- numbers compared
+  equal_numbers : typing (Two two.Eq (Column v) (Column v)) ≡ Ok type.Flag
+  unfolding i s v d p f b most_number columns typing expr_type key_column_type val_column_type same_name is_content denote.Hole.Carrier.hidden Rattle.lara_data.specs.declared.expr.Expr.TheBlock.hidden-the_row-Expr-0
+  equal_numbers = refl
+
+  -- numbers compared
+  least_numbers : typing (Two two.Ge (Column v) (Column v)) ≡ Ok type.Flag
+  unfolding i s v d p f b most_number columns typing expr_type key_column_type val_column_type same_name is_content denote.Hole.Carrier.hidden Rattle.lara_data.specs.declared.expr.Expr.TheBlock.hidden-the_row-Expr-0
+  least_numbers = refl
+
+  -- distances compared
+  other_distances : typing (Two two.Ne (Column d) (Column d)) ≡ Ok type.Flag
+  unfolding i s v d p f b most_number columns typing expr_type key_column_type val_column_type same_name is_content denote.Hole.Carrier.hidden Rattle.lara_data.specs.declared.expr.Expr.TheBlock.hidden-the_row-Expr-0
+  other_distances = refl
+
+  -- paths compared
+  less_paths : typing (Two two.Lt (Column p) (Column p)) ≡ Ok type.Flag
+  unfolding i s v d p f b most_number columns typing expr_type key_column_type val_column_type same_name is_content denote.Hole.Carrier.hidden Rattle.lara_data.specs.declared.expr.Expr.TheBlock.hidden-the_row-Expr-0
+  less_paths = refl
+
+  -- texts compared
+  most_texts : typing (Two two.Le (Column s) (Column s)) ≡ Ok type.Flag
+  unfolding i s v d p f b most_number columns typing expr_type key_column_type val_column_type same_name is_content denote.Hole.Carrier.hidden Rattle.lara_data.specs.declared.expr.Expr.TheBlock.hidden-the_row-Expr-0
+  most_texts = refl
+
+  -- flags compared
+  more_flags : typing (Two two.Gt (Column f) (Column f)) ≡ Ok type.Flag
+  unfolding i s v d p f b most_number columns typing expr_type key_column_type val_column_type same_name is_content denote.Hole.Carrier.hidden Rattle.lara_data.specs.declared.expr.Expr.TheBlock.hidden-the_row-Expr-0
+  more_flags = refl
+
+  -- s ++ s
+  texts_behind : typing (Two two.Cat (Column s) (Column s)) ≡ Ok type.Text
+  unfolding i s v d p f b most_number columns typing expr_type key_column_type val_column_type same_name is_content denote.Hole.Carrier.hidden Rattle.lara_data.specs.declared.expr.Expr.TheBlock.hidden-the_row-Expr-0
+  texts_behind = refl
+
+  -- p ++ p
+  no_paths_behind : typing (Two two.Cat (Column p) (Column p)) ≡ Err TypesDiffer
+  unfolding i s v d p f b most_number columns typing expr_type key_column_type val_column_type same_name is_content denote.Hole.Carrier.hidden Rattle.lara_data.specs.declared.expr.Expr.TheBlock.hidden-the_row-Expr-0
+  no_paths_behind = refl
+
+  -- s * s
+  no_product_of_texts : typing (Two two.Mul (Column s) (Column s)) ≡ Err TypesDiffer
+  unfolding i s v d p f b most_number columns typing expr_type key_column_type val_column_type same_name is_content denote.Hole.Carrier.hidden Rattle.lara_data.specs.declared.expr.Expr.TheBlock.hidden-the_row-Expr-0
+  no_product_of_texts = refl
+
+  -- f and f
+  flags_both : typing (Two two.And (Column f) (Column f)) ≡ Ok type.Flag
+  unfolding i s v d p f b most_number columns typing expr_type key_column_type val_column_type same_name is_content denote.Hole.Carrier.hidden Rattle.lara_data.specs.declared.expr.Expr.TheBlock.hidden-the_row-Expr-0
+  flags_both = refl
+
+  -- f or f
+  flags_either : typing (Two two.Or (Column f) (Column f)) ≡ Ok type.Flag
+  unfolding i s v d p f b most_number columns typing expr_type key_column_type val_column_type same_name is_content denote.Hole.Carrier.hidden Rattle.lara_data.specs.declared.expr.Expr.TheBlock.hidden-the_row-Expr-0
+  flags_either = refl
+
+  -- v and v
+  no_numbers_both : typing (Two two.And (Column v) (Column v)) ≡ Err TypesDiffer
+  unfolding i s v d p f b most_number columns typing expr_type key_column_type val_column_type same_name is_content denote.Hole.Carrier.hidden Rattle.lara_data.specs.declared.expr.Expr.TheBlock.hidden-the_row-Expr-0
+  no_numbers_both = refl
+
+  -- v or v
+  no_numbers_either : typing (Two two.Or (Column v) (Column v)) ≡ Err TypesDiffer
+  unfolding i s v d p f b most_number columns typing expr_type key_column_type val_column_type same_name is_content denote.Hole.Carrier.hidden Rattle.lara_data.specs.declared.expr.Expr.TheBlock.hidden-the_row-Expr-0
+  no_numbers_either = refl
+
+  -- num(d)
+  number_of_distance : typing (Fun fun.Num (Column d)) ≡ Ok type.Number
+  unfolding i s v d p f b most_number columns typing expr_type key_column_type val_column_type same_name is_content denote.Hole.Carrier.hidden Rattle.lara_data.specs.declared.expr.Expr.TheBlock.hidden-the_row-Expr-0
+  number_of_distance = refl
+
+  -- num(f)
+  number_of_flag : typing (Fun fun.Num (Column f)) ≡ Ok type.Number
+  unfolding i s v d p f b most_number columns typing expr_type key_column_type val_column_type same_name is_content denote.Hole.Carrier.hidden Rattle.lara_data.specs.declared.expr.Expr.TheBlock.hidden-the_row-Expr-0
+  number_of_flag = refl
+
+  -- len(s)
+  length : typing (Fun fun.Len (Column s)) ≡ Ok type.Number
+  unfolding i s v d p f b most_number columns typing expr_type key_column_type val_column_type same_name is_content denote.Hole.Carrier.hidden Rattle.lara_data.specs.declared.expr.Expr.TheBlock.hidden-the_row-Expr-0
+  length = refl
+
+  -- path(s)
+  path_of_text : typing (Fun fun.Path (Column s)) ≡ Ok type.Path
+  unfolding i s v d p f b most_number columns typing expr_type key_column_type val_column_type same_name is_content denote.Hole.Carrier.hidden Rattle.lara_data.specs.declared.expr.Expr.TheBlock.hidden-the_row-Expr-0
+  path_of_text = refl
+
+  -- text(p)
+  text_of_a_path : typing (Fun fun.Text (Column p)) ≡ Ok type.Text
+  unfolding i s v d p f b most_number columns typing expr_type key_column_type val_column_type same_name is_content denote.Hole.Carrier.hidden Rattle.lara_data.specs.declared.expr.Expr.TheBlock.hidden-the_row-Expr-0
+  text_of_a_path = refl
+
+  -- dist(d)
+  no_distance_of_distance : typing (Fun fun.Dist (Column d)) ≡ Err TypesDiffer
+  unfolding i s v d p f b most_number columns typing expr_type key_column_type val_column_type same_name is_content denote.Hole.Carrier.hidden Rattle.lara_data.specs.declared.expr.Expr.TheBlock.hidden-the_row-Expr-0
+  no_distance_of_distance = refl
+
+  -- len(p)
+  no_length_of_path : typing (Fun fun.Len (Column p)) ≡ Err TypesDiffer
+  unfolding i s v d p f b most_number columns typing expr_type key_column_type val_column_type same_name is_content denote.Hole.Carrier.hidden Rattle.lara_data.specs.declared.expr.Expr.TheBlock.hidden-the_row-Expr-0
+  no_length_of_path = refl
+
+  -- path(p)
+  no_path_of_path : typing (Fun fun.Path (Column p)) ≡ Err TypesDiffer
+  unfolding i s v d p f b most_number columns typing expr_type key_column_type val_column_type same_name is_content denote.Hole.Carrier.hidden Rattle.lara_data.specs.declared.expr.Expr.TheBlock.hidden-the_row-Expr-0
+  no_path_of_path = refl
+
+  -- text(s)
+  no_text_of_text : typing (Fun fun.Text (Column s)) ≡ Err TypesDiffer
+  unfolding i s v d p f b most_number columns typing expr_type key_column_type val_column_type same_name is_content denote.Hole.Carrier.hidden Rattle.lara_data.specs.declared.expr.Expr.TheBlock.hidden-the_row-Expr-0
+  no_text_of_text = refl
+
+  -- inf, none and true are of their types: if true then d == inf else p == none
+  literals : typing (If (Flag true) (Two two.Eq (Column d) Inf) (Two two.Eq (Column p) None)) ≡ Ok type.Flag
+  unfolding i s v d p f b most_number columns typing expr_type key_column_type val_column_type same_name is_content denote.Hole.Carrier.hidden Rattle.lara_data.specs.declared.expr.Expr.TheBlock.hidden-the_row-Expr-0
+  literals = refl
+
+  -- a column of flags
+  flag_column : typing (Column f) ≡ Ok type.Flag
+  unfolding i s v d p f b most_number columns typing expr_type key_column_type val_column_type same_name is_content denote.Hole.Carrier.hidden Rattle.lara_data.specs.declared.expr.Expr.TheBlock.hidden-the_row-Expr-0
+  flag_column = refl
+
+-- ---- the other types of columns
+
+m : Name
+m = 109 ∷ []
+
+-- [f: flag : m: maxmin, s: last]
+others : Columns
+others = record { keys = record { name = f; ty = key_ty.Flag } ∷ []; vals = record { name = m; ty = ty.MaxMin } ∷ record { name = s; ty = ty.Last } ∷ [] }
+
+-- true:9,"b"
+other : Expr → ExprVal
+other e = value_of others (key.Flag true ∷ []) (value.MaxMin 9 ∷ value.Last (text.Within (98 ∷ [])) ∷ []) e
+
+module _ where
+  -- a width reads as a number
+  of_width : other (Column m) ≡ val.Number 9
+  unfolding f s m others other value_of row_column same_name has read denote.Hole.Carrier.hidden Rattle.lara_data.specs.declared.expr.Expr.TheBlock.hidden-the_row-Expr-0
+  of_width = refl
+
+  -- a latest text as a text
+  of_latest : other (Column s) ≡ val.Text (text.Within (98 ∷ []))
+  unfolding f s m others other value_of row_column same_name has read denote.Hole.Carrier.hidden Rattle.lara_data.specs.declared.expr.Expr.TheBlock.hidden-the_row-Expr-0
+  of_latest = refl
+
+  -- a key of flags as a flag
+  of_flag_key : other (Column f) ≡ val.Flag true
+  unfolding f s m others other value_of row_column same_name has read denote.Hole.Carrier.hidden Rattle.lara_data.specs.declared.expr.Expr.TheBlock.hidden-the_row-Expr-0
+  of_flag_key = refl
+
+  -- and so are their types
+  width : expr_type others (Column m) ≡ Ok type.Number
+  unfolding f s m others expr_type key_column_type val_column_type same_name denote.Hole.Carrier.hidden Rattle.lara_data.specs.declared.expr.Expr.TheBlock.hidden-the_row-Expr-0
+  width = refl
+
+  -- the latest text
+  latest : expr_type others (Column s) ≡ Ok type.Text
+  unfolding f s m others expr_type key_column_type val_column_type same_name denote.Hole.Carrier.hidden Rattle.lara_data.specs.declared.expr.Expr.TheBlock.hidden-the_row-Expr-0
+  latest = refl
+
+  -- the key
+  flag_key : expr_type others (Column f) ≡ Ok type.Flag
+  unfolding f s m others expr_type key_column_type val_column_type same_name denote.Hole.Carrier.hidden Rattle.lara_data.specs.declared.expr.Expr.TheBlock.hidden-the_row-Expr-0
+  flag_key = refl
+
+  -- back in columns of these types
+  to_width : to_val ty.MaxMin (val.Number 9) ≡ value.MaxMin 9
+  to_width = refl
+
+  to_count : to_val ty.Count (val.Number 9) ≡ value.Count 9
+  to_count = refl
+
+  to_distance : to_val ty.MinPlus (val.MinPlus 9) ≡ value.MinPlus 9
+  to_distance = refl
+
+  to_latest : to_val ty.Last (val.Text text.Over) ≡ value.Last text.Over
+  to_latest = refl
+
+  to_path : to_val ty.Path (val.Path path.Absent) ≡ value.Path path.Absent
+  to_path = refl
+
+  to_flag : to_val ty.Flag (val.Flag true) ≡ value.Flag true
+  to_flag = refl
+
+  to_nat : to_key key_ty.Nat (val.Number 9) ≡ key.Nat 9
+  to_nat = refl
+
+  to_text_key : to_key key_ty.Text (val.Text text.Over) ≡ key.Text text.Over
+  to_text_key = refl
+
+  to_flag_key : to_key key_ty.Flag (val.Flag true) ≡ key.Flag true
+  to_flag_key = refl
