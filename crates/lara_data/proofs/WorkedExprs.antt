@@ -1,5 +1,5 @@
 -- Expressions worked out by hand from the table of their forms.
-use Rattle.std.specs.Prelude.{◌≡◌, true, false, [], ◌∷◌, Ok, Err}
+use Rattle.std.specs.Prelude.{◌≡◌, true, false, List, [], ◌∷◌, map, Ok, Err}
 use Rattle.std.proofs.Common.{refl}
 use Rattle.lara_base.specs.Texts.{is_content}
 use Rattle.lara_base.specs.declared.text.Text.TheVariants as text
@@ -54,12 +54,6 @@ tuple = key.Nat 7 ∷ key.Text (text.Within (97 ∷ 98 ∷ [])) ∷ []
 row : Row
 row = value.Count 3 ∷ value.MinPlus 18446744073709551615 ∷ value.Path path.Absent ∷ value.Flag true ∷ []
 
-worth : Expr → ExprVal
-worth e = value_of columns tuple row e
-
-typing : Expr → ExprTyping
-typing e = expr_type columns e
-
 -- an entry with all that can be past its range: over,over:over,over,over,false
 far_tuple : Tuple
 far_tuple = key.Nat 18446744073709551615 ∷ key.Text text.Over ∷ []
@@ -67,533 +61,11 @@ far_tuple = key.Nat 18446744073709551615 ∷ key.Text text.Over ∷ []
 far_row : Row
 far_row = value.Count 18446744073709551615 ∷ value.MinPlus 18446744073709551614 ∷ value.Path path.Over ∷ value.Flag false ∷ []
 
-far : Expr → ExprVal
-far e = value_of columns far_tuple far_row e
-
 b : Expr
 b = Text (98 ∷ [])
 
 most_number : Expr
 most_number = Number 18446744073709551614
-
--- ---- values
-
-module _ where
-  -- columns of the key and of the row
-  of_nat : worth (Column i) ≡ val.Number 7
-  unfolding i s v d p f columns tuple row worth value_of row_column same_name has read denote.Hole.Carrier.hidden Rattle.lara_data.specs.declared.expr.Expr.TheBlock.hidden-the_row-Expr-0
-  of_nat = refl
-
-  of_text : worth (Column s) ≡ val.Text (text.Within (97 ∷ 98 ∷ []))
-  unfolding i s v d p f columns tuple row worth value_of row_column same_name has read
-  of_text = refl
-
-  of_path : worth (Column p) ≡ val.Path path.Absent
-  unfolding i s v d p f columns tuple row worth value_of row_column same_name has read
-  of_path = refl
-
-  -- i + v
-  sum : worth (Two two.Add (Column i) (Column v)) ≡ val.Number 10
-  unfolding i s v d p f b most_number columns tuple row worth value_of row_column same_name has read denote.Hole.Carrier.hidden Rattle.lara_data.specs.declared.expr.Expr.TheBlock.hidden-the_row-Expr-0
-  sum = refl
-
-  -- the greatest number and one more is past the range
-  sum_past : worth (Two two.Add most_number (Number 1)) ≡ val.Number 18446744073709551615
-  unfolding i s v d p f b most_number columns tuple row worth value_of row_column same_name has read denote.Hole.Carrier.hidden Rattle.lara_data.specs.declared.expr.Expr.TheBlock.hidden-the_row-Expr-0
-  sum_past = refl
-
-  -- 0 times a number past the range is 0
-  nothing_times_past : worth (Two two.Mul (Number 0) (Two two.Add most_number (Number 1))) ≡ val.Number 0
-  unfolding i s v d p f b most_number columns tuple row worth value_of row_column same_name has read denote.Hole.Carrier.hidden Rattle.lara_data.specs.declared.expr.Expr.TheBlock.hidden-the_row-Expr-0
-  nothing_times_past = refl
-
-  -- the sum of distances is the lesser: d + dist(5)
-  lesser_distance : worth (Two two.Add (Column d) (Fun fun.Dist (Number 5))) ≡ val.MinPlus 5
-  unfolding i s v d p f b most_number columns tuple row worth value_of row_column same_name has read denote.Hole.Carrier.hidden Rattle.lara_data.specs.declared.expr.Expr.TheBlock.hidden-the_row-Expr-0
-  lesser_distance = refl
-
-  -- the product of distances is the way through both: dist(5) * dist(6)
-  longer_distance : worth (Two two.Mul (Fun fun.Dist (Number 5)) (Fun fun.Dist (Number 6))) ≡ val.MinPlus 11
-  unfolding i s v d p f b most_number columns tuple row worth value_of row_column same_name has read denote.Hole.Carrier.hidden Rattle.lara_data.specs.declared.expr.Expr.TheBlock.hidden-the_row-Expr-0
-  longer_distance = refl
-
-  -- inf * dist(6)
-  no_way : worth (Two two.Mul Inf (Fun fun.Dist (Number 6))) ≡ val.MinPlus 18446744073709551615
-  unfolding i s v d p f b most_number columns tuple row worth value_of row_column same_name has read denote.Hole.Carrier.hidden Rattle.lara_data.specs.declared.expr.Expr.TheBlock.hidden-the_row-Expr-0
-  no_way = refl
-
-  -- p + path("b") over an absent p
-  lesser_path : worth (Two two.Add (Column p) (Fun fun.Path b)) ≡ val.Path (path.Within (98 ∷ []))
-  unfolding i s v d p f b most_number columns tuple row worth value_of row_column same_name has read denote.Hole.Carrier.hidden Rattle.lara_data.specs.declared.expr.Expr.TheBlock.hidden-the_row-Expr-0
-  lesser_path = refl
-
-  -- path(s) * path("b")
-  joined_paths : worth (Two two.Mul (Fun fun.Path (Column s)) (Fun fun.Path b)) ≡ val.Path (path.Within (97 ∷ 98 ∷ 98 ∷ []))
-  unfolding i s v d p f b most_number columns tuple row worth value_of row_column same_name has read denote.Hole.Carrier.hidden Rattle.lara_data.specs.declared.expr.Expr.TheBlock.hidden-the_row-Expr-0
-  joined_paths = refl
-
-  -- s ++ "b"
-  behind : worth (Two two.Cat (Column s) b) ≡ val.Text (text.Within (97 ∷ 98 ∷ 98 ∷ []))
-  unfolding i s v d p f b most_number columns tuple row worth value_of row_column same_name has read denote.Hole.Carrier.hidden Rattle.lara_data.specs.declared.expr.Expr.TheBlock.hidden-the_row-Expr-0
-  behind = refl
-
-  -- "b" > "ab": texts by bytes, not by length
-  by_bytes : worth (Two two.Gt b (Column s)) ≡ val.Flag true
-  unfolding i s v d p f b most_number columns tuple row worth value_of row_column same_name has read denote.Hole.Carrier.hidden Rattle.lara_data.specs.declared.expr.Expr.TheBlock.hidden-the_row-Expr-0
-  by_bytes = refl
-
-  -- path("b") < path("ab"): paths by length first
-  by_length : worth (Two two.Lt (Fun fun.Path b) (Fun fun.Path (Column s))) ≡ val.Flag true
-  unfolding i s v d p f b most_number columns tuple row worth value_of row_column same_name has read denote.Hole.Carrier.hidden Rattle.lara_data.specs.declared.expr.Expr.TheBlock.hidden-the_row-Expr-0
-  by_length = refl
-
-  -- 7 <= 7
-  at_most : worth (Two two.Le (Column i) (Number 7)) ≡ val.Flag true
-  unfolding i s v d p f b most_number columns tuple row worth value_of row_column same_name has read denote.Hole.Carrier.hidden Rattle.lara_data.specs.declared.expr.Expr.TheBlock.hidden-the_row-Expr-0
-  at_most = refl
-
-  -- 7 < 7
-  not_below : worth (Two two.Lt (Column i) (Number 7)) ≡ val.Flag false
-  unfolding i s v d p f b most_number columns tuple row worth value_of row_column same_name has read denote.Hole.Carrier.hidden Rattle.lara_data.specs.declared.expr.Expr.TheBlock.hidden-the_row-Expr-0
-  not_below = refl
-
-  -- 7 >= 8
-  at_least : worth (Two two.Ge (Column i) (Number 8)) ≡ val.Flag false
-  unfolding i s v d p f b most_number columns tuple row worth value_of row_column same_name has read denote.Hole.Carrier.hidden Rattle.lara_data.specs.declared.expr.Expr.TheBlock.hidden-the_row-Expr-0
-  at_least = refl
-
-  -- d == inf
-  one : worth (Two two.Eq (Column d) Inf) ≡ val.Flag true
-  unfolding i s v d p f b most_number columns tuple row worth value_of row_column same_name has read denote.Hole.Carrier.hidden Rattle.lara_data.specs.declared.expr.Expr.TheBlock.hidden-the_row-Expr-0
-  one = refl
-
-  -- p != none
-  other : worth (Two two.Ne (Column p) None) ≡ val.Flag false
-  unfolding i s v d p f b most_number columns tuple row worth value_of row_column same_name has read denote.Hole.Carrier.hidden Rattle.lara_data.specs.declared.expr.Expr.TheBlock.hidden-the_row-Expr-0
-  other = refl
-
-  -- false < f
-  false_first : worth (Two two.Lt (Flag false) (Column f)) ≡ val.Flag true
-  unfolding i s v d p f b most_number columns tuple row worth value_of row_column same_name has read denote.Hole.Carrier.hidden Rattle.lara_data.specs.declared.expr.Expr.TheBlock.hidden-the_row-Expr-0
-  false_first = refl
-
-  -- f and false
-  both : worth (Two two.And (Column f) (Flag false)) ≡ val.Flag false
-  unfolding i s v d p f b most_number columns tuple row worth value_of row_column same_name has read denote.Hole.Carrier.hidden Rattle.lara_data.specs.declared.expr.Expr.TheBlock.hidden-the_row-Expr-0
-  both = refl
-
-  -- f or false
-  either : worth (Two two.Or (Column f) (Flag false)) ≡ val.Flag true
-  unfolding i s v d p f b most_number columns tuple row worth value_of row_column same_name has read denote.Hole.Carrier.hidden Rattle.lara_data.specs.declared.expr.Expr.TheBlock.hidden-the_row-Expr-0
-  either = refl
-
-  -- not f
-  turned : worth (Not (Column f)) ≡ val.Flag false
-  unfolding i s v d p f b most_number columns tuple row worth value_of row_column same_name has read denote.Hole.Carrier.hidden Rattle.lara_data.specs.declared.expr.Expr.TheBlock.hidden-the_row-Expr-0
-  turned = refl
-
-  -- if f then 1 else 2
-  then : worth (If (Column f) (Number 1) (Number 2)) ≡ val.Number 1
-  unfolding i s v d p f b most_number columns tuple row worth value_of row_column same_name has read denote.Hole.Carrier.hidden Rattle.lara_data.specs.declared.expr.Expr.TheBlock.hidden-the_row-Expr-0
-  then = refl
-
-  -- if not f then 1 else 2
-  else : worth (If (Not (Column f)) (Number 1) (Number 2)) ≡ val.Number 2
-  unfolding i s v d p f b most_number columns tuple row worth value_of row_column same_name has read denote.Hole.Carrier.hidden Rattle.lara_data.specs.declared.expr.Expr.TheBlock.hidden-the_row-Expr-0
-  else = refl
-
-  -- num(dist(5))
-  num_of_distance : worth (Fun fun.Num (Fun fun.Dist (Number 5))) ≡ val.Number 5
-  unfolding i s v d p f b most_number columns tuple row worth value_of row_column same_name has read denote.Hole.Carrier.hidden Rattle.lara_data.specs.declared.expr.Expr.TheBlock.hidden-the_row-Expr-0
-  num_of_distance = refl
-
-  -- num(inf) is past the range
-  num_of_inf : worth (Fun fun.Num Inf) ≡ val.Number 18446744073709551615
-  unfolding i s v d p f b most_number columns tuple row worth value_of row_column same_name has read denote.Hole.Carrier.hidden Rattle.lara_data.specs.declared.expr.Expr.TheBlock.hidden-the_row-Expr-0
-  num_of_inf = refl
-
-  -- num(f)
-  num_of_flag : worth (Fun fun.Num (Column f)) ≡ val.Number 1
-  unfolding i s v d p f b most_number columns tuple row worth value_of row_column same_name has read denote.Hole.Carrier.hidden Rattle.lara_data.specs.declared.expr.Expr.TheBlock.hidden-the_row-Expr-0
-  num_of_flag = refl
-
-  -- the greatest distance
-  dist_of_most : worth (Fun fun.Dist (Number 18446744073709551613)) ≡ val.MinPlus 18446744073709551613
-  unfolding i s v d p f b most_number columns tuple row worth value_of row_column same_name has read denote.Hole.Carrier.hidden Rattle.lara_data.specs.declared.expr.Expr.TheBlock.hidden-the_row-Expr-0
-  dist_of_most = refl
-
-  -- the greatest number is past the range of distances
-  dist_of_more : worth (Fun fun.Dist most_number) ≡ val.MinPlus 18446744073709551614
-  unfolding i s v d p f b most_number columns tuple row worth value_of row_column same_name has read denote.Hole.Carrier.hidden Rattle.lara_data.specs.declared.expr.Expr.TheBlock.hidden-the_row-Expr-0
-  dist_of_more = refl
-
-  -- and its number past the range of numbers
-  num_of_past : worth (Fun fun.Num (Fun fun.Dist most_number)) ≡ val.Number 18446744073709551615
-  unfolding i s v d p f b most_number columns tuple row worth value_of row_column same_name has read denote.Hole.Carrier.hidden Rattle.lara_data.specs.declared.expr.Expr.TheBlock.hidden-the_row-Expr-0
-  num_of_past = refl
-
-  -- len(s)
-  length_of : worth (Fun fun.Len (Column s)) ≡ val.Number 2
-  unfolding i s v d p f b most_number columns tuple row worth value_of row_column same_name has read denote.Hole.Carrier.hidden Rattle.lara_data.specs.declared.expr.Expr.TheBlock.hidden-the_row-Expr-0
-  length_of = refl
-
-  -- text(path(s))
-  text_of_path : worth (Fun fun.Text (Fun fun.Path (Column s))) ≡ val.Text (text.Within (97 ∷ 98 ∷ []))
-  unfolding i s v d p f b most_number columns tuple row worth value_of row_column same_name has read denote.Hole.Carrier.hidden Rattle.lara_data.specs.declared.expr.Expr.TheBlock.hidden-the_row-Expr-0
-  text_of_path = refl
-
-  -- text(none) is empty
-  text_of_none : worth (Fun fun.Text None) ≡ val.Text (text.Within [])
-  unfolding i s v d p f b most_number columns tuple row worth value_of row_column same_name has read denote.Hole.Carrier.hidden Rattle.lara_data.specs.declared.expr.Expr.TheBlock.hidden-the_row-Expr-0
-  text_of_none = refl
-
--- ---- values past their range
-
-module _ where
-  -- len(s) of a text past its range
-  len_of_past : far (Fun fun.Len (Column s)) ≡ val.Number 18446744073709551615
-  unfolding i s v d p f b most_number columns tuple row far_tuple far_row far worth value_of row_column same_name has read denote.Hole.Carrier.hidden Rattle.lara_data.specs.declared.expr.Expr.TheBlock.hidden-the_row-Expr-0
-  len_of_past = refl
-
-  -- path(s)
-  path_of_past : far (Fun fun.Path (Column s)) ≡ val.Path path.Over
-  unfolding i s v d p f b most_number columns tuple row far_tuple far_row far worth value_of row_column same_name has read denote.Hole.Carrier.hidden Rattle.lara_data.specs.declared.expr.Expr.TheBlock.hidden-the_row-Expr-0
-  path_of_past = refl
-
-  -- text(p) of a path past its range
-  text_of_past : far (Fun fun.Text (Column p)) ≡ val.Text text.Over
-  unfolding i s v d p f b most_number columns tuple row far_tuple far_row far worth value_of row_column same_name has read denote.Hole.Carrier.hidden Rattle.lara_data.specs.declared.expr.Expr.TheBlock.hidden-the_row-Expr-0
-  text_of_past = refl
-
-  -- num(d) of a distance past its range
-  num_of_far : far (Fun fun.Num (Column d)) ≡ val.Number 18446744073709551615
-  unfolding i s v d p f b most_number columns tuple row far_tuple far_row far worth value_of row_column same_name has read denote.Hole.Carrier.hidden Rattle.lara_data.specs.declared.expr.Expr.TheBlock.hidden-the_row-Expr-0
-  num_of_far = refl
-
-  -- dist(v) of a number past its range
-  dist_of_past : far (Fun fun.Dist (Column v)) ≡ val.MinPlus 18446744073709551614
-  unfolding i s v d p f b most_number columns tuple row far_tuple far_row far worth value_of row_column same_name has read denote.Hole.Carrier.hidden Rattle.lara_data.specs.declared.expr.Expr.TheBlock.hidden-the_row-Expr-0
-  dist_of_past = refl
-
-  -- num(f)
-  num_of_false : far (Fun fun.Num (Column f)) ≡ val.Number 0
-  unfolding i s v d p f b most_number columns tuple row far_tuple far_row far worth value_of row_column same_name has read denote.Hole.Carrier.hidden Rattle.lara_data.specs.declared.expr.Expr.TheBlock.hidden-the_row-Expr-0
-  num_of_false = refl
-
-  -- "b" ++ s
-  past_behind : far (Two two.Cat b (Column s)) ≡ val.Text text.Over
-  unfolding i s v d p f b most_number columns tuple row far_tuple far_row far worth value_of row_column same_name has read denote.Hole.Carrier.hidden Rattle.lara_data.specs.declared.expr.Expr.TheBlock.hidden-the_row-Expr-0
-  past_behind = refl
-
-  -- s ++ "b"
-  past_before : far (Two two.Cat (Column s) b) ≡ val.Text text.Over
-  unfolding i s v d p f b most_number columns tuple row far_tuple far_row far worth value_of row_column same_name has read denote.Hole.Carrier.hidden Rattle.lara_data.specs.declared.expr.Expr.TheBlock.hidden-the_row-Expr-0
-  past_before = refl
-
-  -- "b" < s: past its range is behind every text
-  past_last : far (Two two.Lt b (Column s)) ≡ val.Flag true
-  unfolding i s v d p f b most_number columns tuple row far_tuple far_row far worth value_of row_column same_name has read denote.Hole.Carrier.hidden Rattle.lara_data.specs.declared.expr.Expr.TheBlock.hidden-the_row-Expr-0
-  past_last = refl
-
-  -- s == s
-  past_is_past : far (Two two.Eq (Column s) (Column s)) ≡ val.Flag true
-  unfolding i s v d p f b most_number columns tuple row far_tuple far_row far worth value_of row_column same_name has read denote.Hole.Carrier.hidden Rattle.lara_data.specs.declared.expr.Expr.TheBlock.hidden-the_row-Expr-0
-  past_is_past = refl
-
-  -- the greatest number is before what is past its range
-  past_greatest : far (Two two.Lt most_number (Column i)) ≡ val.Flag true
-  unfolding i s v d p f b most_number columns tuple row far_tuple far_row far worth value_of row_column same_name has read denote.Hole.Carrier.hidden Rattle.lara_data.specs.declared.expr.Expr.TheBlock.hidden-the_row-Expr-0
-  past_greatest = refl
-
-  -- d < inf: past its range is before no way at all
-  far_before_inf : far (Two two.Lt (Column d) Inf) ≡ val.Flag true
-  unfolding i s v d p f b most_number columns tuple row far_tuple far_row far worth value_of row_column same_name has read denote.Hole.Carrier.hidden Rattle.lara_data.specs.declared.expr.Expr.TheBlock.hidden-the_row-Expr-0
-  far_before_inf = refl
-
-  -- d > dist(7)
-  far_behind : far (Two two.Gt (Column d) (Fun fun.Dist (Number 7))) ≡ val.Flag true
-  unfolding i s v d p f b most_number columns tuple row far_tuple far_row far worth value_of row_column same_name has read denote.Hole.Carrier.hidden Rattle.lara_data.specs.declared.expr.Expr.TheBlock.hidden-the_row-Expr-0
-  far_behind = refl
-
-  -- p < none
-  path_before_none : far (Two two.Lt (Column p) None) ≡ val.Flag true
-  unfolding i s v d p f b most_number columns tuple row far_tuple far_row far worth value_of row_column same_name has read denote.Hole.Carrier.hidden Rattle.lara_data.specs.declared.expr.Expr.TheBlock.hidden-the_row-Expr-0
-  path_before_none = refl
-
-  -- p >= path("b")
-  path_behind : far (Two two.Ge (Column p) (Fun fun.Path b)) ≡ val.Flag true
-  unfolding i s v d p f b most_number columns tuple row far_tuple far_row far worth value_of row_column same_name has read denote.Hole.Carrier.hidden Rattle.lara_data.specs.declared.expr.Expr.TheBlock.hidden-the_row-Expr-0
-  path_behind = refl
-
-  -- v + 1
-  sum_stays_past : far (Two two.Add (Column v) (Number 1)) ≡ val.Number 18446744073709551615
-  unfolding i s v d p f b most_number columns tuple row far_tuple far_row far worth value_of row_column same_name has read denote.Hole.Carrier.hidden Rattle.lara_data.specs.declared.expr.Expr.TheBlock.hidden-the_row-Expr-0
-  sum_stays_past = refl
-
-  -- v * 2
-  product_stays_past : far (Two two.Mul (Column v) (Number 2)) ≡ val.Number 18446744073709551615
-  unfolding i s v d p f b most_number columns tuple row far_tuple far_row far worth value_of row_column same_name has read denote.Hole.Carrier.hidden Rattle.lara_data.specs.declared.expr.Expr.TheBlock.hidden-the_row-Expr-0
-  product_stays_past = refl
-
-  -- d + inf
-  lesser_than_far : far (Two two.Add (Column d) Inf) ≡ val.MinPlus 18446744073709551614
-  unfolding i s v d p f b most_number columns tuple row far_tuple far_row far worth value_of row_column same_name has read denote.Hole.Carrier.hidden Rattle.lara_data.specs.declared.expr.Expr.TheBlock.hidden-the_row-Expr-0
-  lesser_than_far = refl
-
-  -- d * dist(7)
-  further_than_far : far (Two two.Mul (Column d) (Fun fun.Dist (Number 7))) ≡ val.MinPlus 18446744073709551614
-  unfolding i s v d p f b most_number columns tuple row far_tuple far_row far worth value_of row_column same_name has read denote.Hole.Carrier.hidden Rattle.lara_data.specs.declared.expr.Expr.TheBlock.hidden-the_row-Expr-0
-  further_than_far = refl
-
-  -- p * path("b")
-  behind_past : far (Two two.Mul (Column p) (Fun fun.Path b)) ≡ val.Path path.Over
-  unfolding i s v d p f b most_number columns tuple row far_tuple far_row far worth value_of row_column same_name has read denote.Hole.Carrier.hidden Rattle.lara_data.specs.declared.expr.Expr.TheBlock.hidden-the_row-Expr-0
-  behind_past = refl
-
-  -- none * p
-  behind_none : far (Two two.Mul None (Column p)) ≡ val.Path path.Absent
-  unfolding i s v d p f b most_number columns tuple row far_tuple far_row far worth value_of row_column same_name has read denote.Hole.Carrier.hidden Rattle.lara_data.specs.declared.expr.Expr.TheBlock.hidden-the_row-Expr-0
-  behind_none = refl
-
-  -- p + path("b")
-  least_path : far (Two two.Add (Column p) (Fun fun.Path b)) ≡ val.Path (path.Within (98 ∷ []))
-  unfolding i s v d p f b most_number columns tuple row far_tuple far_row far worth value_of row_column same_name has read denote.Hole.Carrier.hidden Rattle.lara_data.specs.declared.expr.Expr.TheBlock.hidden-the_row-Expr-0
-  least_path = refl
-
-  -- f or false
-  neither : far (Two two.Or (Column f) (Flag false)) ≡ val.Flag false
-  unfolding i s v d p f b most_number columns tuple row far_tuple far_row far worth value_of row_column same_name has read denote.Hole.Carrier.hidden Rattle.lara_data.specs.declared.expr.Expr.TheBlock.hidden-the_row-Expr-0
-  neither = refl
-
-  -- f != true
-  unequal : far (Two two.Ne (Column f) (Flag true)) ≡ val.Flag true
-  unfolding i s v d p f b most_number columns tuple row far_tuple far_row far worth value_of row_column same_name has read denote.Hole.Carrier.hidden Rattle.lara_data.specs.declared.expr.Expr.TheBlock.hidden-the_row-Expr-0
-  unequal = refl
-
--- ---- types
-
-module _ where
-  -- i + v is a number
-  number_type : typing (Two two.Add (Column i) (Column v)) ≡ Ok type.Number
-  unfolding i s v d p f b most_number columns typing expr_type key_column_type val_column_type same_name is_content denote.Hole.Carrier.hidden Rattle.lara_data.specs.declared.expr.Expr.TheBlock.hidden-the_row-Expr-0
-  number_type = refl
-
-  -- s == "b" is a flag
-  asked : typing (Two two.Eq (Column s) b) ≡ Ok type.Flag
-  unfolding i s v d p f b most_number columns typing expr_type key_column_type val_column_type same_name is_content denote.Hole.Carrier.hidden Rattle.lara_data.specs.declared.expr.Expr.TheBlock.hidden-the_row-Expr-0
-  asked = refl
-
-  -- a name that is no column's
-  unknown : typing (Column (122 ∷ [])) ≡ Err NoName
-  unfolding i s v d p f b most_number columns typing expr_type key_column_type val_column_type same_name is_content denote.Hole.Carrier.hidden Rattle.lara_data.specs.declared.expr.Expr.TheBlock.hidden-the_row-Expr-0
-  unknown = refl
-
-  -- a number that stands for all past the range
-  past : typing (Number 18446744073709551615) ≡ Err NotInRange
-  unfolding i s v d p f b most_number columns typing expr_type key_column_type val_column_type same_name is_content denote.Hole.Carrier.hidden Rattle.lara_data.specs.declared.expr.Expr.TheBlock.hidden-the_row-Expr-0
-  past = refl
-
-  -- i + d
-  two_kinds : typing (Two two.Add (Column i) (Column d)) ≡ Err TypesDiffer
-  unfolding i s v d p f b most_number columns typing expr_type key_column_type val_column_type same_name is_content denote.Hole.Carrier.hidden Rattle.lara_data.specs.declared.expr.Expr.TheBlock.hidden-the_row-Expr-0
-  two_kinds = refl
-
-  -- s + s
-  no_sum_of_texts : typing (Two two.Add (Column s) (Column s)) ≡ Err TypesDiffer
-  unfolding i s v d p f b most_number columns typing expr_type key_column_type val_column_type same_name is_content denote.Hole.Carrier.hidden Rattle.lara_data.specs.declared.expr.Expr.TheBlock.hidden-the_row-Expr-0
-  no_sum_of_texts = refl
-
-  -- f + f
-  no_sum_of_flags : typing (Two two.Add (Column f) (Column f)) ≡ Err TypesDiffer
-  unfolding i s v d p f b most_number columns typing expr_type key_column_type val_column_type same_name is_content denote.Hole.Carrier.hidden Rattle.lara_data.specs.declared.expr.Expr.TheBlock.hidden-the_row-Expr-0
-  no_sum_of_flags = refl
-
-  -- of two broken sides the left one is told: (i + d) * z
-  left_first : typing (Two two.Mul (Two two.Add (Column i) (Column d)) (Column (122 ∷ []))) ≡ Err TypesDiffer
-  unfolding i s v d p f b most_number columns typing expr_type key_column_type val_column_type same_name is_content denote.Hole.Carrier.hidden Rattle.lara_data.specs.declared.expr.Expr.TheBlock.hidden-the_row-Expr-0
-  left_first = refl
-
-  -- not i
-  not_a_flag : typing (Not (Column i)) ≡ Err TypesDiffer
-  unfolding i s v d p f b most_number columns typing expr_type key_column_type val_column_type same_name is_content denote.Hole.Carrier.hidden Rattle.lara_data.specs.declared.expr.Expr.TheBlock.hidden-the_row-Expr-0
-  not_a_flag = refl
-
-  -- if f then i else d
-  two_branches : typing (If (Column f) (Column i) (Column d)) ≡ Err TypesDiffer
-  unfolding i s v d p f b most_number columns typing expr_type key_column_type val_column_type same_name is_content denote.Hole.Carrier.hidden Rattle.lara_data.specs.declared.expr.Expr.TheBlock.hidden-the_row-Expr-0
-  two_branches = refl
-
-  -- if i then i else v
-  no_condition : typing (If (Column i) (Column i) (Column v)) ≡ Err TypesDiffer
-  unfolding i s v d p f b most_number columns typing expr_type key_column_type val_column_type same_name is_content denote.Hole.Carrier.hidden Rattle.lara_data.specs.declared.expr.Expr.TheBlock.hidden-the_row-Expr-0
-  no_condition = refl
-
-  -- if f then i else v is a number
-  branches : typing (If (Column f) (Column i) (Column v)) ≡ Ok type.Number
-  unfolding i s v d p f b most_number columns typing expr_type key_column_type val_column_type same_name is_content denote.Hole.Carrier.hidden Rattle.lara_data.specs.declared.expr.Expr.TheBlock.hidden-the_row-Expr-0
-  branches = refl
-
-  -- dist(v) is a distance
-  distance : typing (Fun fun.Dist (Column v)) ≡ Ok type.MinPlus
-  unfolding i s v d p f b most_number columns typing expr_type key_column_type val_column_type same_name is_content denote.Hole.Carrier.hidden Rattle.lara_data.specs.declared.expr.Expr.TheBlock.hidden-the_row-Expr-0
-  distance = refl
-
-  -- num(s)
-  no_number_of_text : typing (Fun fun.Num (Column s)) ≡ Err TypesDiffer
-  unfolding i s v d p f b most_number columns typing expr_type key_column_type val_column_type same_name is_content denote.Hole.Carrier.hidden Rattle.lara_data.specs.declared.expr.Expr.TheBlock.hidden-the_row-Expr-0
-  no_number_of_text = refl
-
-  -- v + v
-  sum_of_numbers : typing (Two two.Add (Column v) (Column v)) ≡ Ok type.Number
-  unfolding i s v d p f b most_number columns typing expr_type key_column_type val_column_type same_name is_content denote.Hole.Carrier.hidden Rattle.lara_data.specs.declared.expr.Expr.TheBlock.hidden-the_row-Expr-0
-  sum_of_numbers = refl
-
-  -- v * v
-  product_of_numbers : typing (Two two.Mul (Column v) (Column v)) ≡ Ok type.Number
-  unfolding i s v d p f b most_number columns typing expr_type key_column_type val_column_type same_name is_content denote.Hole.Carrier.hidden Rattle.lara_data.specs.declared.expr.Expr.TheBlock.hidden-the_row-Expr-0
-  product_of_numbers = refl
-
-  -- d + d
-  sum_of_distances : typing (Two two.Add (Column d) (Column d)) ≡ Ok type.MinPlus
-  unfolding i s v d p f b most_number columns typing expr_type key_column_type val_column_type same_name is_content denote.Hole.Carrier.hidden Rattle.lara_data.specs.declared.expr.Expr.TheBlock.hidden-the_row-Expr-0
-  sum_of_distances = refl
-
-  -- d * d
-  product_of_distances : typing (Two two.Mul (Column d) (Column d)) ≡ Ok type.MinPlus
-  unfolding i s v d p f b most_number columns typing expr_type key_column_type val_column_type same_name is_content denote.Hole.Carrier.hidden Rattle.lara_data.specs.declared.expr.Expr.TheBlock.hidden-the_row-Expr-0
-  product_of_distances = refl
-
-  -- p + p
-  sum_of_paths : typing (Two two.Add (Column p) (Column p)) ≡ Ok type.Path
-  unfolding i s v d p f b most_number columns typing expr_type key_column_type val_column_type same_name is_content denote.Hole.Carrier.hidden Rattle.lara_data.specs.declared.expr.Expr.TheBlock.hidden-the_row-Expr-0
-  sum_of_paths = refl
-
-  -- p * p
-  product_of_paths : typing (Two two.Mul (Column p) (Column p)) ≡ Ok type.Path
-  unfolding i s v d p f b most_number columns typing expr_type key_column_type val_column_type same_name is_content denote.Hole.Carrier.hidden Rattle.lara_data.specs.declared.expr.Expr.TheBlock.hidden-the_row-Expr-0
-  product_of_paths = refl
-
-  -- numbers compared
-  equal_numbers : typing (Two two.Eq (Column v) (Column v)) ≡ Ok type.Flag
-  unfolding i s v d p f b most_number columns typing expr_type key_column_type val_column_type same_name is_content denote.Hole.Carrier.hidden Rattle.lara_data.specs.declared.expr.Expr.TheBlock.hidden-the_row-Expr-0
-  equal_numbers = refl
-
-  -- numbers compared
-  least_numbers : typing (Two two.Ge (Column v) (Column v)) ≡ Ok type.Flag
-  unfolding i s v d p f b most_number columns typing expr_type key_column_type val_column_type same_name is_content denote.Hole.Carrier.hidden Rattle.lara_data.specs.declared.expr.Expr.TheBlock.hidden-the_row-Expr-0
-  least_numbers = refl
-
-  -- distances compared
-  other_distances : typing (Two two.Ne (Column d) (Column d)) ≡ Ok type.Flag
-  unfolding i s v d p f b most_number columns typing expr_type key_column_type val_column_type same_name is_content denote.Hole.Carrier.hidden Rattle.lara_data.specs.declared.expr.Expr.TheBlock.hidden-the_row-Expr-0
-  other_distances = refl
-
-  -- paths compared
-  less_paths : typing (Two two.Lt (Column p) (Column p)) ≡ Ok type.Flag
-  unfolding i s v d p f b most_number columns typing expr_type key_column_type val_column_type same_name is_content denote.Hole.Carrier.hidden Rattle.lara_data.specs.declared.expr.Expr.TheBlock.hidden-the_row-Expr-0
-  less_paths = refl
-
-  -- texts compared
-  most_texts : typing (Two two.Le (Column s) (Column s)) ≡ Ok type.Flag
-  unfolding i s v d p f b most_number columns typing expr_type key_column_type val_column_type same_name is_content denote.Hole.Carrier.hidden Rattle.lara_data.specs.declared.expr.Expr.TheBlock.hidden-the_row-Expr-0
-  most_texts = refl
-
-  -- flags compared
-  more_flags : typing (Two two.Gt (Column f) (Column f)) ≡ Ok type.Flag
-  unfolding i s v d p f b most_number columns typing expr_type key_column_type val_column_type same_name is_content denote.Hole.Carrier.hidden Rattle.lara_data.specs.declared.expr.Expr.TheBlock.hidden-the_row-Expr-0
-  more_flags = refl
-
-  -- s ++ s
-  texts_behind : typing (Two two.Cat (Column s) (Column s)) ≡ Ok type.Text
-  unfolding i s v d p f b most_number columns typing expr_type key_column_type val_column_type same_name is_content denote.Hole.Carrier.hidden Rattle.lara_data.specs.declared.expr.Expr.TheBlock.hidden-the_row-Expr-0
-  texts_behind = refl
-
-  -- p ++ p
-  no_paths_behind : typing (Two two.Cat (Column p) (Column p)) ≡ Err TypesDiffer
-  unfolding i s v d p f b most_number columns typing expr_type key_column_type val_column_type same_name is_content denote.Hole.Carrier.hidden Rattle.lara_data.specs.declared.expr.Expr.TheBlock.hidden-the_row-Expr-0
-  no_paths_behind = refl
-
-  -- s * s
-  no_product_of_texts : typing (Two two.Mul (Column s) (Column s)) ≡ Err TypesDiffer
-  unfolding i s v d p f b most_number columns typing expr_type key_column_type val_column_type same_name is_content denote.Hole.Carrier.hidden Rattle.lara_data.specs.declared.expr.Expr.TheBlock.hidden-the_row-Expr-0
-  no_product_of_texts = refl
-
-  -- f and f
-  flags_both : typing (Two two.And (Column f) (Column f)) ≡ Ok type.Flag
-  unfolding i s v d p f b most_number columns typing expr_type key_column_type val_column_type same_name is_content denote.Hole.Carrier.hidden Rattle.lara_data.specs.declared.expr.Expr.TheBlock.hidden-the_row-Expr-0
-  flags_both = refl
-
-  -- f or f
-  flags_either : typing (Two two.Or (Column f) (Column f)) ≡ Ok type.Flag
-  unfolding i s v d p f b most_number columns typing expr_type key_column_type val_column_type same_name is_content denote.Hole.Carrier.hidden Rattle.lara_data.specs.declared.expr.Expr.TheBlock.hidden-the_row-Expr-0
-  flags_either = refl
-
-  -- v and v
-  no_numbers_both : typing (Two two.And (Column v) (Column v)) ≡ Err TypesDiffer
-  unfolding i s v d p f b most_number columns typing expr_type key_column_type val_column_type same_name is_content denote.Hole.Carrier.hidden Rattle.lara_data.specs.declared.expr.Expr.TheBlock.hidden-the_row-Expr-0
-  no_numbers_both = refl
-
-  -- v or v
-  no_numbers_either : typing (Two two.Or (Column v) (Column v)) ≡ Err TypesDiffer
-  unfolding i s v d p f b most_number columns typing expr_type key_column_type val_column_type same_name is_content denote.Hole.Carrier.hidden Rattle.lara_data.specs.declared.expr.Expr.TheBlock.hidden-the_row-Expr-0
-  no_numbers_either = refl
-
-  -- num(d)
-  number_of_distance : typing (Fun fun.Num (Column d)) ≡ Ok type.Number
-  unfolding i s v d p f b most_number columns typing expr_type key_column_type val_column_type same_name is_content denote.Hole.Carrier.hidden Rattle.lara_data.specs.declared.expr.Expr.TheBlock.hidden-the_row-Expr-0
-  number_of_distance = refl
-
-  -- num(f)
-  number_of_flag : typing (Fun fun.Num (Column f)) ≡ Ok type.Number
-  unfolding i s v d p f b most_number columns typing expr_type key_column_type val_column_type same_name is_content denote.Hole.Carrier.hidden Rattle.lara_data.specs.declared.expr.Expr.TheBlock.hidden-the_row-Expr-0
-  number_of_flag = refl
-
-  -- len(s)
-  length : typing (Fun fun.Len (Column s)) ≡ Ok type.Number
-  unfolding i s v d p f b most_number columns typing expr_type key_column_type val_column_type same_name is_content denote.Hole.Carrier.hidden Rattle.lara_data.specs.declared.expr.Expr.TheBlock.hidden-the_row-Expr-0
-  length = refl
-
-  -- path(s)
-  path_of_text : typing (Fun fun.Path (Column s)) ≡ Ok type.Path
-  unfolding i s v d p f b most_number columns typing expr_type key_column_type val_column_type same_name is_content denote.Hole.Carrier.hidden Rattle.lara_data.specs.declared.expr.Expr.TheBlock.hidden-the_row-Expr-0
-  path_of_text = refl
-
-  -- text(p)
-  text_of_a_path : typing (Fun fun.Text (Column p)) ≡ Ok type.Text
-  unfolding i s v d p f b most_number columns typing expr_type key_column_type val_column_type same_name is_content denote.Hole.Carrier.hidden Rattle.lara_data.specs.declared.expr.Expr.TheBlock.hidden-the_row-Expr-0
-  text_of_a_path = refl
-
-  -- dist(d)
-  no_distance_of_distance : typing (Fun fun.Dist (Column d)) ≡ Err TypesDiffer
-  unfolding i s v d p f b most_number columns typing expr_type key_column_type val_column_type same_name is_content denote.Hole.Carrier.hidden Rattle.lara_data.specs.declared.expr.Expr.TheBlock.hidden-the_row-Expr-0
-  no_distance_of_distance = refl
-
-  -- len(p)
-  no_length_of_path : typing (Fun fun.Len (Column p)) ≡ Err TypesDiffer
-  unfolding i s v d p f b most_number columns typing expr_type key_column_type val_column_type same_name is_content denote.Hole.Carrier.hidden Rattle.lara_data.specs.declared.expr.Expr.TheBlock.hidden-the_row-Expr-0
-  no_length_of_path = refl
-
-  -- path(p)
-  no_path_of_path : typing (Fun fun.Path (Column p)) ≡ Err TypesDiffer
-  unfolding i s v d p f b most_number columns typing expr_type key_column_type val_column_type same_name is_content denote.Hole.Carrier.hidden Rattle.lara_data.specs.declared.expr.Expr.TheBlock.hidden-the_row-Expr-0
-  no_path_of_path = refl
-
-  -- text(s)
-  no_text_of_text : typing (Fun fun.Text (Column s)) ≡ Err TypesDiffer
-  unfolding i s v d p f b most_number columns typing expr_type key_column_type val_column_type same_name is_content denote.Hole.Carrier.hidden Rattle.lara_data.specs.declared.expr.Expr.TheBlock.hidden-the_row-Expr-0
-  no_text_of_text = refl
-
-  -- inf, none and true are of their types: if true then d == inf else p == none
-  literals : typing (If (Flag true) (Two two.Eq (Column d) Inf) (Two two.Eq (Column p) None)) ≡ Ok type.Flag
-  unfolding i s v d p f b most_number columns typing expr_type key_column_type val_column_type same_name is_content denote.Hole.Carrier.hidden Rattle.lara_data.specs.declared.expr.Expr.TheBlock.hidden-the_row-Expr-0
-  literals = refl
-
-  -- a column of flags
-  flag_column : typing (Column f) ≡ Ok type.Flag
-  unfolding i s v d p f b most_number columns typing expr_type key_column_type val_column_type same_name is_content denote.Hole.Carrier.hidden Rattle.lara_data.specs.declared.expr.Expr.TheBlock.hidden-the_row-Expr-0
-  flag_column = refl
-
--- ---- the other types of columns
 
 m : Name
 m = 109 ∷ []
@@ -603,64 +75,292 @@ others : Columns
 others = record { keys = record { name = f; ty = key_ty.Flag } ∷ []; vals = record { name = m; ty = ty.MaxMin } ∷ record { name = s; ty = ty.Last } ∷ [] }
 
 -- true:9,"b"
-other : Expr → ExprVal
-other e = value_of others (key.Flag true ∷ []) (value.MaxMin 9 ∷ value.Last (text.Within (98 ∷ [])) ∷ []) e
+other_tuple : Tuple
+other_tuple = key.Flag true ∷ []
 
-module _ where
-  -- a width reads as a number
-  of_width : other (Column m) ≡ val.Number 9
-  unfolding f s m others other value_of row_column same_name has read denote.Hole.Carrier.hidden Rattle.lara_data.specs.declared.expr.Expr.TheBlock.hidden-the_row-Expr-0
-  of_width = refl
+other_row : Row
+other_row = value.MaxMin 9 ∷ value.Last (text.Within (98 ∷ [])) ∷ []
 
-  -- a latest text as a text
-  of_latest : other (Column s) ≡ val.Text (text.Within (98 ∷ []))
-  unfolding f s m others other value_of row_column same_name has read denote.Hole.Carrier.hidden Rattle.lara_data.specs.declared.expr.Expr.TheBlock.hidden-the_row-Expr-0
-  of_latest = refl
+-- an expression with what it comes to
+abbrev Worth : Type 0
+Worth = Expr × ExprVal
 
-  -- a key of flags as a flag
-  of_flag_key : other (Column f) ≡ val.Flag true
-  unfolding f s m others other value_of row_column same_name has read denote.Hole.Carrier.hidden Rattle.lara_data.specs.declared.expr.Expr.TheBlock.hidden-the_row-Expr-0
-  of_flag_key = refl
+-- an expression with its type, or the kind of the first rule that it breaks
+abbrev Typed : Type 0
+Typed = Expr × ExprTyping
 
-  -- and so are their types
-  width : expr_type others (Column m) ≡ Ok type.Number
-  unfolding f s m others expr_type key_column_type val_column_type same_name denote.Hole.Carrier.hidden Rattle.lara_data.specs.declared.expr.Expr.TheBlock.hidden-the_row-Expr-0
-  width = refl
+-- ---- values
 
-  -- the latest text
-  latest : expr_type others (Column s) ≡ Ok type.Text
-  unfolding f s m others expr_type key_column_type val_column_type same_name denote.Hole.Carrier.hidden Rattle.lara_data.specs.declared.expr.Expr.TheBlock.hidden-the_row-Expr-0
-  latest = refl
+values : List Worth
+values =
+    -- columns of the key and of the row
+    (Column i, val.Number 7) ∷
+    -- i + v
+    (Two two.Add (Column i) (Column v), val.Number 10) ∷
+    -- the greatest number and one more is past the range
+    (Two two.Add most_number (Number 1), val.Number 18446744073709551615) ∷
+    -- 0 times a number past the range is 0
+    (Two two.Mul (Number 0) (Two two.Add most_number (Number 1)), val.Number 0) ∷
+    -- the sum of distances is the lesser: d + dist(5)
+    (Two two.Add (Column d) (Fun fun.Dist (Number 5)), val.MinPlus 5) ∷
+    -- the product of distances is the way through both: dist(5) * dist(6)
+    (Two two.Mul (Fun fun.Dist (Number 5)) (Fun fun.Dist (Number 6)), val.MinPlus 11) ∷
+    -- inf * dist(6)
+    (Two two.Mul Inf (Fun fun.Dist (Number 6)), val.MinPlus 18446744073709551615) ∷
+    -- p + path("b") over an absent p
+    (Two two.Add (Column p) (Fun fun.Path b), val.Path (path.Within (98 ∷ []))) ∷
+    -- path(s) * path("b")
+    (Two two.Mul (Fun fun.Path (Column s)) (Fun fun.Path b), val.Path (path.Within (97 ∷ 98 ∷ 98 ∷ []))) ∷
+    -- s ++ "b"
+    (Two two.Cat (Column s) b, val.Text (text.Within (97 ∷ 98 ∷ 98 ∷ []))) ∷
+    -- "b" > "ab": texts by bytes, not by length
+    (Two two.Gt b (Column s), val.Flag true) ∷
+    -- path("b") < path("ab"): paths by length first
+    (Two two.Lt (Fun fun.Path b) (Fun fun.Path (Column s)), val.Flag true) ∷
+    -- 7 <= 7
+    (Two two.Le (Column i) (Number 7), val.Flag true) ∷
+    -- 7 < 7
+    (Two two.Lt (Column i) (Number 7), val.Flag false) ∷
+    -- 7 >= 8
+    (Two two.Ge (Column i) (Number 8), val.Flag false) ∷
+    -- d == inf
+    (Two two.Eq (Column d) Inf, val.Flag true) ∷
+    -- p != none
+    (Two two.Ne (Column p) None, val.Flag false) ∷
+    -- false < f
+    (Two two.Lt (Flag false) (Column f), val.Flag true) ∷
+    -- f and false
+    (Two two.And (Column f) (Flag false), val.Flag false) ∷
+    -- f or false
+    (Two two.Or (Column f) (Flag false), val.Flag true) ∷
+    -- not f
+    (Not (Column f), val.Flag false) ∷
+    -- if f then 1 else 2
+    (If (Column f) (Number 1) (Number 2), val.Number 1) ∷
+    -- if not f then 1 else 2
+    (If (Not (Column f)) (Number 1) (Number 2), val.Number 2) ∷
+    -- num(dist(5))
+    (Fun fun.Num (Fun fun.Dist (Number 5)), val.Number 5) ∷
+    -- num(inf) is past the range
+    (Fun fun.Num Inf, val.Number 18446744073709551615) ∷
+    -- num(f)
+    (Fun fun.Num (Column f), val.Number 1) ∷
+    -- the greatest distance
+    (Fun fun.Dist (Number 18446744073709551613), val.MinPlus 18446744073709551613) ∷
+    -- the greatest number is past the range of distances
+    (Fun fun.Dist most_number, val.MinPlus 18446744073709551614) ∷
+    -- and its number past the range of numbers
+    (Fun fun.Num (Fun fun.Dist most_number), val.Number 18446744073709551615) ∷
+    -- len(s)
+    (Fun fun.Len (Column s), val.Number 2) ∷
+    -- text(path(s))
+    (Fun fun.Text (Fun fun.Path (Column s)), val.Text (text.Within (97 ∷ 98 ∷ []))) ∷
+    -- text(none) is empty
+    (Fun fun.Text None, val.Text (text.Within [])) ∷
+    -- columns of the key and of the row
+    (Column s, val.Text (text.Within (97 ∷ 98 ∷ []))) ∷
+    -- columns of the key and of the row
+    (Column p, val.Path path.Absent) ∷
+    []
 
-  -- the key
-  flag_key : expr_type others (Column f) ≡ Ok type.Flag
-  unfolding f s m others expr_type key_column_type val_column_type same_name denote.Hole.Carrier.hidden Rattle.lara_data.specs.declared.expr.Expr.TheBlock.hidden-the_row-Expr-0
-  flag_key = refl
+-- each comes to this over 7,"ab":3,inf,none,true
+values_are : map (λ (c : Worth). value_of columns tuple row c.0) values ≡ map (λ (c : Worth). c.1) values
+unfolding values i s v d p f m b most_number columns tuple row far_tuple far_row others other_tuple other_row value_of row_column same_name has read denote.Hole.Carrier.hidden Rattle.lara_data.specs.declared.expr.Expr.TheBlock.hidden-the_row-Expr-0
+values_are = refl
 
-  -- back in columns of these types
-  to_width : to_val ty.MaxMin (val.Number 9) ≡ value.MaxMin 9
-  to_width = refl
+values_past : List Worth
+values_past =
+    -- len(s) of a text past its range
+    (Fun fun.Len (Column s), val.Number 18446744073709551615) ∷
+    -- path(s)
+    (Fun fun.Path (Column s), val.Path path.Over) ∷
+    -- text(p) of a path past its range
+    (Fun fun.Text (Column p), val.Text text.Over) ∷
+    -- num(d) of a distance past its range
+    (Fun fun.Num (Column d), val.Number 18446744073709551615) ∷
+    -- dist(v) of a number past its range
+    (Fun fun.Dist (Column v), val.MinPlus 18446744073709551614) ∷
+    -- num(f)
+    (Fun fun.Num (Column f), val.Number 0) ∷
+    -- "b" ++ s
+    (Two two.Cat b (Column s), val.Text text.Over) ∷
+    -- s ++ "b"
+    (Two two.Cat (Column s) b, val.Text text.Over) ∷
+    -- "b" < s: past its range is behind every text
+    (Two two.Lt b (Column s), val.Flag true) ∷
+    -- s == s
+    (Two two.Eq (Column s) (Column s), val.Flag true) ∷
+    -- the greatest number is before what is past its range
+    (Two two.Lt most_number (Column i), val.Flag true) ∷
+    -- d < inf: past its range is before no way at all
+    (Two two.Lt (Column d) Inf, val.Flag true) ∷
+    -- d > dist(7)
+    (Two two.Gt (Column d) (Fun fun.Dist (Number 7)), val.Flag true) ∷
+    -- p < none
+    (Two two.Lt (Column p) None, val.Flag true) ∷
+    -- p >= path("b")
+    (Two two.Ge (Column p) (Fun fun.Path b), val.Flag true) ∷
+    -- v + 1
+    (Two two.Add (Column v) (Number 1), val.Number 18446744073709551615) ∷
+    -- v * 2
+    (Two two.Mul (Column v) (Number 2), val.Number 18446744073709551615) ∷
+    -- d + inf
+    (Two two.Add (Column d) Inf, val.MinPlus 18446744073709551614) ∷
+    -- d * dist(7)
+    (Two two.Mul (Column d) (Fun fun.Dist (Number 7)), val.MinPlus 18446744073709551614) ∷
+    -- p * path("b")
+    (Two two.Mul (Column p) (Fun fun.Path b), val.Path path.Over) ∷
+    -- none * p
+    (Two two.Mul None (Column p), val.Path path.Absent) ∷
+    -- p + path("b")
+    (Two two.Add (Column p) (Fun fun.Path b), val.Path (path.Within (98 ∷ []))) ∷
+    -- f or false
+    (Two two.Or (Column f) (Flag false), val.Flag false) ∷
+    -- f != true
+    (Two two.Ne (Column f) (Flag true), val.Flag true) ∷
+    []
 
-  to_count : to_val ty.Count (val.Number 9) ≡ value.Count 9
-  to_count = refl
+-- each comes to this where all that can be is past its range
+values_past_are : map (λ (c : Worth). value_of columns far_tuple far_row c.0) values_past ≡ map (λ (c : Worth). c.1) values_past
+unfolding values_past i s v d p f m b most_number columns tuple row far_tuple far_row others other_tuple other_row value_of row_column same_name has read denote.Hole.Carrier.hidden Rattle.lara_data.specs.declared.expr.Expr.TheBlock.hidden-the_row-Expr-0
+values_past_are = refl
 
-  to_distance : to_val ty.MinPlus (val.MinPlus 9) ≡ value.MinPlus 9
-  to_distance = refl
+values_of_others : List Worth
+values_of_others =
+    -- a width reads as a number
+    (Column m, val.Number 9) ∷
+    -- a latest text as a text
+    (Column s, val.Text (text.Within (98 ∷ []))) ∷
+    -- a key of flags as a flag
+    (Column f, val.Flag true) ∷
+    []
 
-  to_latest : to_val ty.Last (val.Text text.Over) ≡ value.Last text.Over
-  to_latest = refl
+-- each comes to this over true:9,"b"
+values_of_others_are : map (λ (c : Worth). value_of others other_tuple other_row c.0) values_of_others ≡ map (λ (c : Worth). c.1) values_of_others
+unfolding values_of_others i s v d p f m b most_number columns tuple row far_tuple far_row others other_tuple other_row value_of row_column same_name has read denote.Hole.Carrier.hidden Rattle.lara_data.specs.declared.expr.Expr.TheBlock.hidden-the_row-Expr-0
+values_of_others_are = refl
 
-  to_path : to_val ty.Path (val.Path path.Absent) ≡ value.Path path.Absent
-  to_path = refl
+-- ---- types
 
-  to_flag : to_val ty.Flag (val.Flag true) ≡ value.Flag true
-  to_flag = refl
+typings : List Typed
+typings =
+    -- i + v is a number
+    (Two two.Add (Column i) (Column v), Ok type.Number) ∷
+    -- s == "b" is a flag
+    (Two two.Eq (Column s) b, Ok type.Flag) ∷
+    -- a name that is no column's
+    (Column (122 ∷ []), Err NoName) ∷
+    -- a number that stands for all past the range
+    (Number 18446744073709551615, Err NotInRange) ∷
+    -- i + d
+    (Two two.Add (Column i) (Column d), Err TypesDiffer) ∷
+    -- s + s
+    (Two two.Add (Column s) (Column s), Err TypesDiffer) ∷
+    -- f + f
+    (Two two.Add (Column f) (Column f), Err TypesDiffer) ∷
+    -- of two broken sides the left one is told: (i + d) * z
+    (Two two.Mul (Two two.Add (Column i) (Column d)) (Column (122 ∷ [])), Err TypesDiffer) ∷
+    -- not i
+    (Not (Column i), Err TypesDiffer) ∷
+    -- if f then i else d
+    (If (Column f) (Column i) (Column d), Err TypesDiffer) ∷
+    -- if i then i else v
+    (If (Column i) (Column i) (Column v), Err TypesDiffer) ∷
+    -- if f then i else v is a number
+    (If (Column f) (Column i) (Column v), Ok type.Number) ∷
+    -- dist(v) is a distance
+    (Fun fun.Dist (Column v), Ok type.MinPlus) ∷
+    -- num(s)
+    (Fun fun.Num (Column s), Err TypesDiffer) ∷
+    -- v + v
+    (Two two.Add (Column v) (Column v), Ok type.Number) ∷
+    -- v * v
+    (Two two.Mul (Column v) (Column v), Ok type.Number) ∷
+    -- d + d
+    (Two two.Add (Column d) (Column d), Ok type.MinPlus) ∷
+    -- d * d
+    (Two two.Mul (Column d) (Column d), Ok type.MinPlus) ∷
+    -- p + p
+    (Two two.Add (Column p) (Column p), Ok type.Path) ∷
+    -- p * p
+    (Two two.Mul (Column p) (Column p), Ok type.Path) ∷
+    -- numbers compared
+    (Two two.Eq (Column v) (Column v), Ok type.Flag) ∷
+    -- numbers compared
+    (Two two.Ge (Column v) (Column v), Ok type.Flag) ∷
+    -- distances compared
+    (Two two.Ne (Column d) (Column d), Ok type.Flag) ∷
+    -- paths compared
+    (Two two.Lt (Column p) (Column p), Ok type.Flag) ∷
+    -- texts compared
+    (Two two.Le (Column s) (Column s), Ok type.Flag) ∷
+    -- flags compared
+    (Two two.Gt (Column f) (Column f), Ok type.Flag) ∷
+    -- s ++ s
+    (Two two.Cat (Column s) (Column s), Ok type.Text) ∷
+    -- p ++ p
+    (Two two.Cat (Column p) (Column p), Err TypesDiffer) ∷
+    -- s * s
+    (Two two.Mul (Column s) (Column s), Err TypesDiffer) ∷
+    -- f and f
+    (Two two.And (Column f) (Column f), Ok type.Flag) ∷
+    -- f or f
+    (Two two.Or (Column f) (Column f), Ok type.Flag) ∷
+    -- v and v
+    (Two two.And (Column v) (Column v), Err TypesDiffer) ∷
+    -- v or v
+    (Two two.Or (Column v) (Column v), Err TypesDiffer) ∷
+    -- num(d)
+    (Fun fun.Num (Column d), Ok type.Number) ∷
+    -- num(f)
+    (Fun fun.Num (Column f), Ok type.Number) ∷
+    -- len(s)
+    (Fun fun.Len (Column s), Ok type.Number) ∷
+    -- path(s)
+    (Fun fun.Path (Column s), Ok type.Path) ∷
+    -- text(p)
+    (Fun fun.Text (Column p), Ok type.Text) ∷
+    -- dist(d)
+    (Fun fun.Dist (Column d), Err TypesDiffer) ∷
+    -- len(p)
+    (Fun fun.Len (Column p), Err TypesDiffer) ∷
+    -- path(p)
+    (Fun fun.Path (Column p), Err TypesDiffer) ∷
+    -- text(s)
+    (Fun fun.Text (Column s), Err TypesDiffer) ∷
+    -- inf, none and true are of their types: if true then d == inf else p == none
+    (If (Flag true) (Two two.Eq (Column d) Inf) (Two two.Eq (Column p) None), Ok type.Flag) ∷
+    -- a column of flags
+    (Column f, Ok type.Flag) ∷
+    []
 
-  to_nat : to_key key_ty.Nat (val.Number 9) ≡ key.Nat 9
-  to_nat = refl
+-- each is of this type, or is refused so
+typings_are : map (λ (c : Typed). expr_type columns c.0) typings ≡ map (λ (c : Typed). c.1) typings
+unfolding typings i s v d p f m b most_number columns others expr_type key_column_type val_column_type same_name is_content denote.Hole.Carrier.hidden Rattle.lara_data.specs.declared.expr.Expr.TheBlock.hidden-the_row-Expr-0
+typings_are = refl
 
-  to_text_key : to_key key_ty.Text (val.Text text.Over) ≡ key.Text text.Over
-  to_text_key = refl
+typings_of_others : List Typed
+typings_of_others =
+    -- and so are their types
+    (Column m, Ok type.Number) ∷
+    -- the latest text
+    (Column s, Ok type.Text) ∷
+    -- the key
+    (Column f, Ok type.Flag) ∷
+    []
 
-  to_flag_key : to_key key_ty.Flag (val.Flag true) ≡ key.Flag true
-  to_flag_key = refl
+-- each is of this type
+typings_of_others_are : map (λ (c : Typed). expr_type others c.0) typings_of_others ≡ map (λ (c : Typed). c.1) typings_of_others
+unfolding typings_of_others i s v d p f m b most_number columns others expr_type key_column_type val_column_type same_name is_content denote.Hole.Carrier.hidden Rattle.lara_data.specs.declared.expr.Expr.TheBlock.hidden-the_row-Expr-0
+typings_of_others_are = refl
+
+-- ---- in columns
+
+-- values in key columns and in value columns of their types
+in_keys : to_key key_ty.Nat (val.Number 9) ∷ to_key key_ty.Text (val.Text text.Over) ∷ to_key key_ty.Flag (val.Flag true) ∷ [] ≡ key.Nat 9 ∷ key.Text text.Over ∷ key.Flag true ∷ []
+in_keys = refl
+
+in_rows :
+    to_val ty.Count (val.Number 9) ∷ to_val ty.MinPlus (val.MinPlus 9) ∷ to_val ty.MaxMin (val.Number 9) ∷ to_val ty.Flag (val.Flag true) ∷ to_val ty.Last (val.Text text.Over) ∷ to_val ty.Path (val.Path path.Absent) ∷ []
+    ≡ value.Count 9 ∷ value.MinPlus 9 ∷ value.MaxMin 9 ∷ value.Flag true ∷ value.Last text.Over ∷ value.Path path.Absent ∷ []
+in_rows = refl
