@@ -2,7 +2,7 @@
 ghost use Rattle.std.specs.Prelude.{◌≡◌, ◌<◌, map, filter, length, Ok, IfOk, IsOk};
 ghost use Rattle.lara_key.specs.Keys.{tuple_cmp};
 ghost use Rattle.lara_data.specs.declared.order.EachOp.TheVariants.{Map, Promote};
-ghost use Rattle.lara_data.specs.TableTypes.{Columns, types};
+ghost use Rattle.lara_data.specs.TableTypes.{types};
 ghost use Rattle.lara_data.specs.Tables.{table_of};
 ghost use Rattle.lara_data.specs.KeyedTables.{SameAt};
 ghost use Rattle.lara_data.specs.ExprValues.{is_true, value_of};
@@ -156,7 +156,7 @@ pub fn ext(
     op: &EachOp,
     plugins: &Vec<Box<dyn Plugin>>,
 ) -> Result<Assoc, AllocError>
-    requires { (ty : Columns) × EachTyped a.now.ty op.now ty }
+    requires { EachTyped a.now.ty op.now (each_columns op.now a.now.ty) }
     ensures { IfOk result (λ r. r ≡ ext (handed ⟦<dyn Plugin as Plugin>⟧ plugins.now.items) op.now a.now) }
 {
     let _plugins = plugins;

@@ -28,3 +28,5 @@ pub use unions::union;
 
 #[cfg(test)]
 mod tests;
+#[cfg(test)]
+mod tests_extensions;

@@ -17,7 +17,7 @@ use std::collections::btree_map;
 use std::test::Fail;
 
 // The name of one letter. In the contracts below 105 is i, 106 j, 107 k, 118 v and 119 w.
-fn name(alloc: Global, letter: u8) -> Result<Name, AllocError>
+pub(crate) fn name(alloc: Global, letter: u8) -> Result<Name, AllocError>
     ensures { IfOk result (λ n. n ≡ letter ∷ []) }
 {
     match Name::new(List::from_slice(alloc, &[letter])?) {
@@ -26,7 +26,7 @@ fn name(alloc: Global, letter: u8) -> Result<Name, AllocError>
     }
 }
 
-fn key_col(alloc: Global, letter: u8) -> Result<KeyCol, AllocError>
+pub(crate) fn key_col(alloc: Global, letter: u8) -> Result<KeyCol, AllocError>
     ensures { IfOk result (λ k. k ≡ record { name = letter ∷ []; ty = Nat }) }
 {
     Ok(KeyCol {
@@ -35,7 +35,7 @@ fn key_col(alloc: Global, letter: u8) -> Result<KeyCol, AllocError>
     })
 }
 
-fn val_col(alloc: Global, letter: u8) -> Result<ValCol, AllocError>
+pub(crate) fn val_col(alloc: Global, letter: u8) -> Result<ValCol, AllocError>
     ensures { IfOk result (λ v. v ≡ record { name = letter ∷ []; ty = Count }) }
 {
     Ok(ValCol {
@@ -92,7 +92,7 @@ fn pairs_type(alloc: Global, i: u8, v: u8, w: u8) -> Result<TableType, AllocErro
 type Cell = (u64, u64, u64);
 
 // An entry of a vector: its key column and its value.
-type Item = (u64, u64);
+pub(crate) type Item = (u64, u64);
 
 #[tactic(auto, unfolding(lara_key::specs::Keys::tuple_has, lara_key::specs::Keys::has_key_type))]
 fn pair_key(alloc: Global, i: u64, j: u64) -> Result<Tuple, AllocError>
@@ -186,7 +186,7 @@ fn matrix(alloc: Global, i: u8, j: u8, cells: &[Cell]) -> Result<Assoc, AllocErr
 }
 
 #[tactic(auto, unfolding(lara_data::specs::Tables::table_of))]
-fn vector(alloc: Global, v: u8, items: &[Item]) -> Result<Assoc, AllocError>
+pub(crate) fn vector(alloc: Global, v: u8, items: &[Item]) -> Result<Assoc, AllocError>
     ensures { IfOk result (λ a. a.ty ≡ record { keys = record { name = 105 ∷ []; ty = Nat } ∷ []; vals = record { name = v ∷ []; ty = Count } ∷ [] }) }
 {
     let ty = vector_type(alloc, b'i', v)?;
@@ -294,7 +294,7 @@ fn are(cells: btree_map::Iter<'_, Tuple, Row>, want: &[(&[u64], &[u64])]) -> boo
 }
 
 // Whether a table has these keys with these rows, and no others.
-fn has(table: &Assoc, want: &[(&[u64], &[u64])]) -> bool {
+pub(crate) fn has(table: &Assoc, want: &[(&[u64], &[u64])]) -> bool {
     table.len() == want.len() && are(table.iter(), want)
 }
 
