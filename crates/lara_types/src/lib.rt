@@ -3,6 +3,7 @@
 
 mod agg_places;
 mod differ;
+mod expr_types;
 mod literal_entries;
 mod literal_types;
 mod named;
@@ -13,6 +14,7 @@ mod scripts;
 mod stored;
 mod trees;
 
+pub use expr_types::expr_type;
 pub use lara_data::Schema;
 pub use rules::{Typed, type_agg, type_join, type_union};
 pub use scripts::check;
