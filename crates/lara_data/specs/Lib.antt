@@ -16,6 +16,7 @@ pub mod DistinctNames
 pub mod ExprLaws
 pub mod ExprTypes
 pub mod ExprValues
+pub mod ExtensionLaws
 pub mod Extensions
 pub mod Fits
 pub mod Headings

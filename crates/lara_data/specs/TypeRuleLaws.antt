@@ -95,7 +95,7 @@ no_common n (c ∷ cs) ds h =
 
 -- ---- few columns
 
-few_columns : (keys : List KeyCol) (vals : Vals) → length keys ≤ most_columns → 0 < length vals → length vals ≤ most_columns → distinct (column_names keys vals) ≡ true → are_columns keys vals ≡ true
+pub few_columns : (keys : List KeyCol) (vals : Vals) → length keys ≤ most_columns → 0 < length vals → length vals ≤ most_columns → distinct (column_names keys vals) ≡ true → are_columns keys vals ≡ true
 unfolding are_columns
 few_columns keys vals k v w d =
     and_from (nat_le (length keys) most_columns && nat_le 1 (length vals) && nat_le (length vals) most_columns) (distinct (column_names keys vals))
@@ -104,12 +104,12 @@ few_columns keys vals k v w d =
     (le-leb (length vals) most_columns w)) d
 
 -- what a table's columns are known to be
-record Few (keys : List KeyCol) (vals : Vals) : Type 0 where
-  keys_few : length keys ≤ most_columns
-  vals_some : 0 < length vals
-  vals_few : length vals ≤ most_columns
+pub record Few (keys : List KeyCol) (vals : Vals) : Type 0 where
+  pub keys_few : length keys ≤ most_columns
+  pub vals_some : 0 < length vals
+  pub vals_few : length vals ≤ most_columns
 
-few_of : (keys : List KeyCol) (vals : Vals) → are_columns keys vals ≡ true → Few keys vals
+pub few_of : (keys : List KeyCol) (vals : Vals) → are_columns keys vals ≡ true → Few keys vals
 unfolding are_columns
 few_of keys vals h =
     let front = (and_parts (nat_le (length keys) most_columns && nat_le 1 (length vals) && nat_le (length vals) most_columns) (distinct (column_names keys vals)) h).0 in
@@ -119,7 +119,7 @@ few_of keys vals h =
     record { keys_few = leb-true (length keys) most_columns one.0; vals_some = omega (arith, some); vals_few = leb-true (length vals) most_columns both.1 }
 
 -- columns that differ, of which there is a value column and not too many of either kind, are a table's
-of_few : (c : Columns) → too_many c ≡ false → 0 < length c.vals → distinct (column_names c.keys c.vals) ≡ true → are_columns c.keys c.vals ≡ true
+pub of_few : (c : Columns) → too_many c ≡ false → 0 < length c.vals → distinct (column_names c.keys c.vals) ≡ true → are_columns c.keys c.vals ≡ true
 unfolding too_many
 of_few c h v d =
     let few = or_parts (nat_lt most_columns (length c.keys)) (nat_lt most_columns (length c.vals)) h in

@@ -42,10 +42,10 @@ tuple_has_append [] us (v ∷ x) y p q = cc
 tuple_has_append (t ∷ ts) us [] y p q = cc
 tuple_has_append (t ∷ ts) us (v ∷ x) y p q = and_from _ _ (and_parts (has_key_type t v) (tuple_has ts x) p).0 (tuple_has_append ts us x y (and_parts (has_key_type t v) (tuple_has ts x) p).1 q)
 
-key_has_append : (ks ls : List KeyCol) (x y : Tuple) → KeyHas ks x → KeyHas ls y → KeyHas (ks ++ ls) (x ++ y)
+pub key_has_append : (ks ls : List KeyCol) (x y : Tuple) → KeyHas ks x → KeyHas ls y → KeyHas (ks ++ ls) (x ++ y)
 key_has_append ks ls x y p q = ap (λ ts. tuple_has ts (x ++ y)) (map-append (λ (k : KeyCol). k.ty) ks ls) ∙ tuple_has_append (key_types ks) (key_types ls) x y p q
 
-one_has : (k : KeyCol) (v : KeyVal) → has_key_type k.ty v ≡ true → KeyHas (k ∷ []) (v ∷ [])
+pub one_has : (k : KeyCol) (v : KeyVal) → has_key_type k.ty v ≡ true → KeyHas (k ∷ []) (v ∷ [])
 unfolding tuple_has
 one_has k v h = and_from _ _ h refl
 
