@@ -3,8 +3,10 @@ pub mod CheckedScripts
 pub mod ColumnFacts
 pub mod ColumnNames
 pub mod ColumnTypes
+pub mod EachTypes
 pub mod EntryValues
 pub mod FitFacts
+pub mod ListedNames
 pub mod LiteralFacts
 pub mod MadeNodes
 pub mod PlacedNames

@@ -1,6 +1,7 @@
 pub mod Answered
 pub mod CheckedTrees
 pub mod Checks
+pub mod DefTypes
 pub mod Found
 pub mod HasTypes
 pub mod LiteralLaws
