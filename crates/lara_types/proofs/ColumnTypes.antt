@@ -15,7 +15,8 @@ use Rattle.lara_syntax.specs.declared.ast.AstValCol.{AstValCol}
 use Rattle.lara_base.specs.Results.{◌>>=◌, bind_same}
 use Rattle.lara_types.specs.Answered.{answered, ok_is}
 use Rattle.lara_types.specs.LiteralTypes.{one_more_name, one_more_val, distinct_names}
-use Rattle.lara_types.specs.NodeRules.{once_rules, column_rules}
+use Rattle.lara_types.specs.NameRules.{once_rules}
+use Rattle.lara_types.specs.NodeRules.{column_rules}
 use Rattle.lara_types.specs.RuleLaws.{first_here, first_behind, rules_refuse}
 use Rattle.lara_types.specs.Rules.{first_broken, unless, by_rules, rule}
 use Rattle.lara_types.specs.WalkLaws.{walk-append}
