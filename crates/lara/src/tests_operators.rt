@@ -112,7 +112,7 @@ T = A B;|lara: script byte 6: Unexpected
 T = agg A;|lara: script byte 9: Unexpected
 T = agg A by i,;|lara: script byte 15: Unexpected
 T = load (A);|lara: script byte 9: Unexpected
-T = filter A where v < 10;|lara: script byte 4: Unexpected
+T = apply A with words(s) as w;|lara: script byte 4: Unexpected
 T = ();|lara: script byte 5: Unexpected
 print (T);|lara: script byte 6: Unexpected
 ";

@@ -1,5 +1,5 @@
 -- What the type of an expression is, and what an expression comes to.
-use Rattle.std.specs.Prelude.{◌≡◌, true, false, not, cond, ℕ, Bool, List, nat_lt, Ok, Err}
+use Rattle.std.specs.Prelude.{◌≡◌, not, cond, ℕ, Bool, List, nat_lt, Ok, Err}
 use Rattle.std.proofs.Common.{refl}
 use Rattle.lara_base.specs.Results.{◌>>=◌}
 use Rattle.lara_base.specs.Texts.{is_content}

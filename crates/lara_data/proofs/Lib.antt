@@ -1,4 +1,6 @@
 mod WorkedColumns
+mod WorkedExprs
+mod WorkedExtensions
 mod WorkedScripts
 mod WorkedTables
 pub mod ColumnNames

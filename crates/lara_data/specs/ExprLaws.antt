@@ -1,9 +1,9 @@
 -- Which types expressions have, told from both sides, and that a typed expression comes to a value of its type.
-use Rattle.std.specs.Prelude.{◌≡◌, ◌<◌, ◌≤◌, ◌-◌, ◌^◌, ◌++◌, ℕ, Bool, true, false, cond, ◌&&◌, ◌||◌, min, nat_lt, nat_le, List, [], ◌∷◌, length, Option, Some, None, Result, Ok, Err}
+use Rattle.std.specs.Prelude.{◌≡◌, ◌<◌, ◌≤◌, ◌++◌, ℕ, Bool, true, false, cond, ◌&&◌, ◌||◌, min, nat_lt, nat_le, List, [], ◌∷◌, length, Option, Some, None, Result, Ok, Err}
 use Rattle.std.specs.List.{list_all}
 use Rattle.std.specs.Option.{option_or}
-use Rattle.std.proofs.Common.{refl, sym, ap, ◌∙◌, arith, length-append, subst}
-use Rattle.std.proofs.lemmas.Bool.{and_from, and_parts, ltb-true, le-leb}
+use Rattle.std.proofs.Common.{refl, sym, ap, ◌∙◌, arith, subst}
+use Rattle.std.proofs.lemmas.Bool.{and_from, and_parts, ltb-true}
 use Rattle.std.proofs.lemmas.Bool.Decides.{nat_tests}
 use Rattle.std.proofs.lemmas.List.Folds.{list_all-append}
 use Rattle.lara_base.specs.Results.{◌>>=◌}
@@ -16,10 +16,10 @@ use Rattle.lara_key.specs.declared.key.KeyVal.{KeyVal}
 use Rattle.lara_key.specs.declared.key.KeyVal.TheVariants as key
 use Rattle.lara_key.specs.Keys.{has_key_type, tuple_has}
 use Rattle.lara_semiring.specs.Counts.{count_over, count_plus_is, count_times_is}
-use Rattle.lara_semiring.specs.MinPlus.{minplus_over, minplus_inf, minplus_plus_is, minplus_times_is}
-use Rattle.lara_semiring.specs.Paths.{is_path, path_plus_is, path_times_is}
+use Rattle.lara_semiring.specs.MinPlus.{minplus_over, minplus_inf, minplus_times_is}
+use Rattle.lara_semiring.specs.Paths.{path_plus_is, path_times_is}
 use Rattle.lara_semiring.specs.Rows.{first, rest, row_has}
-use Rattle.lara_semiring.specs.Values.{has_type, value_zero_is}
+use Rattle.lara_semiring.specs.Values.{has_type}
 use Rattle.lara_semiring.specs.declared.path.PathText.TheVariants as path
 use Rattle.lara_semiring.specs.declared.value.ValType.{ValType}
 use Rattle.lara_semiring.specs.declared.value.ValType.TheVariants as val_type
@@ -40,13 +40,12 @@ use Rattle.lara_data.specs.declared.expr_val.ExprVal.TheVariants as val
 use Rattle.lara_data.specs.declared.refusal.Kind.{Kind}
 use Rattle.lara_data.specs.declared.refusal.Kind.TheVariants.{NoName, NotInRange, TypesDiffer}
 use Rattle.lara_data.specs.declared.table_type.KeyCol.{KeyCol}
-use Rattle.lara_data.specs.declared.table_type.ValCol.{ValCol}
 use Rattle.lara_data.specs.KeyedTables.{Row}
 use Rattle.lara_data.specs.TableTypes.{Columns, types, key_types, key_names}
 use Rattle.lara_data.specs.Names.{Name, Tuple, same_name, has, read}
 use Rattle.lara_data.specs.Vals.{Vals}
 use Rattle.lara_data.specs.TypedTables.{KeyHas}
-use Rattle.lara_data.specs.ExprTypes.{key_expr_type, val_expr_type, same_expr_type, key_column_type, val_column_type, column_type, two_type, sides_type, not_type, branches_type, fun_type, ExprTyping, type_or, expr_type, ExprHas, column, number, text as written, flag, inf, none, sides, turned, branches, called}
+use Rattle.lara_data.specs.ExprTypes.{key_expr_type, val_expr_type, same_expr_type, key_column_type, val_column_type, column_type, two_type, sides_type, not_type, branches_type, fun_type, type_or, expr_type, ExprHas, column, number, text as written, flag, inf, none, sides, turned, branches, called}
 use Rattle.lara_data.specs.ExprValues.{is_expr_val, of_key, of_val, row_column, entry_column, is_true, text_cat, expr_plus, expr_times, two_value, fun_value, value_of, to_key, to_val}
 
 -- ---- types

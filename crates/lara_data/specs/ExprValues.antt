@@ -1,6 +1,6 @@
 -- What an expression comes to, over the columns, the key and the row of an entry. Each is defined on all values, also past
 -- their range; where a side is of a type that no typed expression has there, it is some value.
-use Rattle.std.specs.Prelude.{ℕ, Bool, true, false, not, cond, ◌&&◌, ◌||◌, nat_le, nat_lt, min, List, [], ◌∷◌, ◌++◌, length, if◌then◌else◌}
+use Rattle.std.specs.Prelude.{Bool, true, false, not, cond, ◌&&◌, ◌||◌, nat_le, nat_lt, min, [], ◌∷◌, ◌++◌, length, if◌then◌else◌}
 use Rattle.std.specs.declared.cmp.Ordering.{Ordering}
 use Rattle.std.specs.declared.cmp.Ordering.TheVariants.{Equal}
 use Rattle.std.specs.Ordering.{nat_cmp, bool_cmp, is_eq, is_ne, is_lt, is_le, is_gt, is_ge}
@@ -16,7 +16,6 @@ use Rattle.lara_semiring.specs.MinPlus.{minplus_over, minplus_inf, minplus_plus,
 use Rattle.lara_semiring.specs.Paths.{path_cmp, path_plus, path_times, is_path}
 use Rattle.lara_semiring.specs.Rows.{first, rest}
 use Rattle.lara_semiring.specs.Values.{value_zero}
-use Rattle.lara_semiring.specs.declared.path.PathText.{PathText}
 use Rattle.lara_semiring.specs.declared.path.PathText.TheVariants as path
 use Rattle.lara_semiring.specs.declared.value.ValType.{ValType}
 use Rattle.lara_semiring.specs.declared.value.ValType.TheVariants as val_type

@@ -1,5 +1,5 @@
 -- What the rules of maps, filters, promotes and renames keep, and that these make tables of their columns.
-use Rattle.std.specs.Prelude.{◌≡◌, ◌<◌, Bool, true, false, cond, ◌&&◌, ◌||◌, not, List, [], ◌∷◌, ◌++◌, map, length, Result, Ok, Err}
+use Rattle.std.specs.Prelude.{◌≡◌, ◌<◌, Bool, true, false, cond, ◌&&◌, ◌||◌, List, [], ◌∷◌, ◌++◌, map, length, Result, Ok, Err}
 use Rattle.std.specs.List.{flat_map}
 use Rattle.std.proofs.Common.{refl, sym, ap, ◌∙◌, arith, subst}
 use Rattle.std.proofs.lemmas.Bool.{and_from, and_parts, or_parts, both_ways}
@@ -20,12 +20,12 @@ use Rattle.lara_data.specs.declared.refusal.Kind.TheVariants.{NoName, NameTwice,
 use Rattle.lara_data.specs.declared.table_type.KeyCol.{KeyCol}
 use Rattle.lara_data.specs.declared.table_type.ValCol.{ValCol}
 use Rattle.lara_data.specs.TableTypes.{Columns, types, key_types, key_names, val_names, column_names, are_columns}
-use Rattle.lara_data.specs.Names.{Name, Tuple, same_name, same_name_is, has, has_append, among, distinct, not_true}
+use Rattle.lara_data.specs.Names.{Name, Tuple, same_name, same_name_is, has, has_append, among, distinct}
 use Rattle.lara_data.specs.KeyedTables.{Row, all_have, IsTable, AllKeys}
 use Rattle.lara_data.specs.KeyedTypes.{all_have_append}
 use Rattle.lara_data.specs.Apart.{keys_append}
 use Rattle.lara_data.specs.TupleOrders.{tuple_order}
-use Rattle.lara_data.specs.Tables.{Entry, Entries, Table, table_of}
+use Rattle.lara_data.specs.Tables.{Entry, Entries, Table}
 use Rattle.lara_data.specs.DistinctNames.{distinct_append, distinct_left, distinct_right, distinct_apart}
 use Rattle.lara_data.specs.DistinctColumns.{distinct_names}
 use Rattle.lara_data.specs.Plugins.{Plugins}
@@ -245,19 +245,19 @@ module _ (ps : Plugins) (t : Table) (p : IsTypedTable t) where
       let all = of_each_list t.ty cols.keys (types t.ty.vals) (of_each ps t.ty (each.Promote d)) (λ e h r. one_entry cols.keys (types t.ty.vals) (record { key = promoted_key t.ty d e; row = e.row }) r (key_has_append t.ty.keys (d.col ∷ []) e.key (to_key d.col.ty (value_of t.ty e.key e.row d.expr) ∷ []) h (one_has d.col (to_key d.col.ty (value_of t.ty e.key e.row d.expr)) (to_key_is d.col.ty (value_of t.ty e.key e.row d.expr) (value_is t.ty e.key e.row d.expr (key_expr_type d.col.ty) h r m.typed))))) t.entries p.rows p.keys in
       IsTypedTable-table_of cols (flat_map (of_each ps t.ty (each.Promote d)) t.entries) (promote_are_columns t.ty d p.columns m.fresh m.few) all.rows all.keys
 
-  pub IsTypedTable-rename : (pairs : List NamePair) → distinct (names_of (renamed_columns pairs t.ty)) ≡ true → IsTypedTable (renamed pairs t)
-  unfolding renamed renamed_columns
-  IsTypedTable-rename pairs d = record {
-    columns = rename_are_columns t.ty pairs p.columns d;
-    table = subst (λ ts. IsTable tuple_cmp ts t.entries) (sym (same_types t.ty.vals)) p.table;
-    rows = ap (λ ts. all_have ts t.entries) (same_types t.ty.vals) ∙ p.rows;
-    keys = subst (λ ts. AllKeys (λ x. tuple_has ts x ≡ true) t.entries) (sym (same_key_types t.ty.keys)) p.keys;
-  }
-    where
-      same_types : (vs : List ValCol) → types (map {A = ValCol} {B = ValCol} (λ v. record { name = new_name pairs v.name; ty = v.ty }) vs) ≡ types vs
-      same_types [] = refl
-      same_types (v ∷ vs) = ap (λ ts. v.ty ∷ ts) (same_types vs)
+pub IsTypedTable-rename : (t : Table) → IsTypedTable t → (pairs : List NamePair) → distinct (names_of (renamed_columns pairs t.ty)) ≡ true → IsTypedTable (renamed pairs t)
+unfolding renamed renamed_columns
+IsTypedTable-rename t p pairs d = record {
+  columns = rename_are_columns t.ty pairs p.columns d;
+  table = subst (λ ts. IsTable tuple_cmp ts t.entries) (sym (same_types t.ty.vals)) p.table;
+  rows = ap (λ ts. all_have ts t.entries) (same_types t.ty.vals) ∙ p.rows;
+  keys = subst (λ ts. AllKeys (λ x. tuple_has ts x ≡ true) t.entries) (sym (same_key_types t.ty.keys)) p.keys;
+}
+  where
+    same_types : (vs : List ValCol) → types (map {A = ValCol} {B = ValCol} (λ v. record { name = new_name pairs v.name; ty = v.ty }) vs) ≡ types vs
+    same_types [] = refl
+    same_types (v ∷ vs) = ap (λ ts. v.ty ∷ ts) (same_types vs)
 
-      same_key_types : (ks : List KeyCol) → key_types (map {A = KeyCol} {B = KeyCol} (λ k. record { name = new_name pairs k.name; ty = k.ty }) ks) ≡ key_types ks
-      same_key_types [] = refl
-      same_key_types (k ∷ ks) = ap (λ ts. k.ty ∷ ts) (same_key_types ks)
+    same_key_types : (ks : List KeyCol) → key_types (map {A = KeyCol} {B = KeyCol} (λ k. record { name = new_name pairs k.name; ty = k.ty }) ks) ≡ key_types ks
+    same_key_types [] = refl
+    same_key_types (k ∷ ks) = ap (λ ts. k.ty ∷ ts) (same_key_types ks)

@@ -13,6 +13,7 @@ pub mod Databases
 pub mod Denotations
 pub mod DistinctColumns
 pub mod DistinctNames
+pub mod ExprColumns
 pub mod ExprLaws
 pub mod ExprTypes
 pub mod ExprValues

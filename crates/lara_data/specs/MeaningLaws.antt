@@ -1,19 +1,26 @@
 -- A typed tree that fits its database means a table of its node's type.
-use Rattle.std.specs.Prelude.{◌≡◌, true, false, cond, fold, List, [], ◌∷◌, ◌++◌, Option, Some, None}
+use Rattle.std.specs.Prelude.{◌≡◌, ◌<◌, true, false, cond, fold, length, List, [], ◌∷◌, ◌++◌, Option, Some, None}
 use Rattle.std.proofs.Common.{refl, sym, ap, ◌∙◌, subst}
 use Rattle.lara_data.specs.declared.node.Op.{Op}
 use Rattle.lara_data.specs.declared.node.Op.TheBlock.{end_of-Node, more_of-Node}
 use Rattle.lara_data.specs.declared.node.Op.TheVariants.{Load, Named, Literal, Join', Union', Agg', Map', Filter', Promote', Rename', Apply'}
 use Rattle.lara_data.specs.declared.schema.Schema.{Schema}
 use Rattle.lara_data.specs.TableTypes.{Columns, key_names}
-use Rattle.lara_data.specs.Names.{Name, same_name, among}
+use Rattle.lara_data.specs.Names.{Name, same_name, among, distinct}
 use Rattle.lara_data.specs.Newest.{newer, newest}
 use Rattle.lara_data.specs.Tables.{Entries, Table, table_of}
 use Rattle.lara_data.specs.Algebra.{common_vals, join_columns, union_columns, agg_columns, join_tables, union_tables, agg_table}
 use Rattle.lara_data.specs.TypedTables.{IsTypedTable, IsTypedTable-join, IsTypedTable-union, IsTypedTable-agg, IsTypedTable-table_of}
-use Rattle.lara_data.specs.TypeRules.{types_differ, is_none, too_many}
+use Rattle.lara_data.specs.TypeRules.{types_differ, is_none, too_many, names_of}
 use Rattle.lara_data.specs.TypeRuleLaws.{IsJoin, IsUnion, IsAgg, join_type_rules, union_type_rules, agg_type_rules, join_are_columns, union_are_columns, agg_are_columns}
 use Rattle.lara_data.specs.KeyTypeLaws.{same_key_types}
+use Rattle.lara_data.specs.declared.arg.Def.{Def}
+use Rattle.lara_data.specs.declared.arg.KeyDef.{KeyDef}
+use Rattle.lara_data.specs.declared.arg.NamePair.{NamePair}
+use Rattle.lara_data.specs.declared.expr.Expr.{Expr}
+use Rattle.lara_data.specs.declared.order.EachOp.TheVariants as each
+use Rattle.lara_data.specs.Extensions.{each_columns, ext, renamed_columns, renamed}
+use Rattle.lara_data.specs.ExtensionLaws.{IsMap, IsFilter, IsPromote, IsRename, map_type_rules, filter_type_rules, promote_type_rules, rename_type_rules, IsTypedTable-map, IsTypedTable-filter, IsTypedTable-promote, IsTypedTable-rename}
 use Rattle.lara_data.specs.TypedTrees.{type_named, IsLiteral, OpTyped}
 use Rattle.lara_data.specs.Plugins.{Plugins}
 use Rattle.lara_data.specs.Denotations.{NamedTable, Database, table_named, table_or_empty, meaning}
@@ -49,6 +56,31 @@ IsTableOf-agg s t ks ty p j =
       columns = (λ i. agg_columns (p.columns i) ks) ∙ j.is;
       typed = IsTypedTable-agg s ks (agg_are_columns s.ty ks p.typed.columns keys j.once) keys p.typed;
     }
+
+pub IsTableOf-map : (ps : Plugins) (s : Table) (t : Columns) (ds : List Def) (ty : Columns) → IsTableOf t s → 0 < length ds → IsMap t ds ty → IsTableOf ty (ext ps (each.Map ds) s)
+unfolding ext table_of
+IsTableOf-map ps s t ds ty p some m = record {
+  columns = ap (each_columns (each.Map ds)) p.columns ∙ m.is;
+  typed = IsTypedTable-map ps s p.typed ds ty some (subst (λ u. IsMap u ds ty) (sym p.columns) m);
+}
+
+pub IsTableOf-filter : (ps : Plugins) (s : Table) (t : Columns) (test : Expr) (ty : Columns) → IsTableOf t s → IsFilter t test ty → IsTableOf ty (ext ps (each.Filter test) s)
+unfolding ext table_of each_columns
+IsTableOf-filter ps s t test ty p m = record { columns = p.columns ∙ m.is; typed = IsTypedTable-filter ps s p.typed test }
+
+pub IsTableOf-promote : (ps : Plugins) (s : Table) (t : Columns) (d : KeyDef) (ty : Columns) → IsTableOf t s → IsPromote t d ty → IsTableOf ty (ext ps (each.Promote d) s)
+unfolding ext table_of
+IsTableOf-promote ps s t d ty p m = record {
+  columns = ap (each_columns (each.Promote d)) p.columns ∙ m.is;
+  typed = IsTypedTable-promote ps s p.typed d ty (subst (λ u. IsPromote u d ty) (sym p.columns) m);
+}
+
+pub IsTableOf-rename : (s : Table) (t : Columns) (pairs : List NamePair) (ty : Columns) → IsTableOf t s → IsRename t pairs ty → IsTableOf ty (renamed pairs s)
+unfolding renamed
+IsTableOf-rename s t pairs ty p m = record {
+  columns = ap (renamed_columns pairs) p.columns ∙ m.is;
+  typed = IsTypedTable-rename s p.typed pairs (ap (λ u. distinct (names_of (renamed_columns pairs u))) p.columns ∙ m.apart);
+}
 
 pub IsTableOf-literal : (ty : Columns) (es : Entries) → IsLiteral ty es → IsTableOf ty (table_of ty es)
 unfolding table_of
@@ -137,8 +169,12 @@ IsTableOf-meaning ps db known tables s (Union' _ (more_of-Node t a end_of-Node) 
     IsTableOf-union (meaning ps db tables a t) (meaning ps db tables b u) t u ty (IsTableOf-meaning ps db known tables s a t h.1 f.0) (IsTableOf-meaning ps db known tables s b u h.2 f.1) (union_type_rules t u ty h.0)
 IsTableOf-meaning ps db known tables s (Agg' _ (more_of-Node t a end_of-Node) ks) ty h f =
     IsTableOf-agg (meaning ps db tables a t) t ks ty (IsTableOf-meaning ps db known tables s a t h.1 f) (agg_type_rules t ks ty h.0)
-IsTableOf-meaning ps db known tables s (Map' _ (more_of-Node t a end_of-Node) defs) ty h f = absurd h
-IsTableOf-meaning ps db known tables s (Filter' _ (more_of-Node t a end_of-Node) test) ty h f = absurd h
-IsTableOf-meaning ps db known tables s (Promote' _ (more_of-Node t a end_of-Node) def) ty h f = absurd h
-IsTableOf-meaning ps db known tables s (Rename' _ (more_of-Node t a end_of-Node) pairs) ty h f = absurd h
+IsTableOf-meaning ps db known tables s (Map' _ (more_of-Node t a end_of-Node) defs) ty h f =
+    IsTableOf-map ps (meaning ps db tables a t) t defs ty (IsTableOf-meaning ps db known tables s a t h.2 f) h.0 (map_type_rules t defs ty h.1)
+IsTableOf-meaning ps db known tables s (Filter' _ (more_of-Node t a end_of-Node) test) ty h f =
+    IsTableOf-filter ps (meaning ps db tables a t) t test ty (IsTableOf-meaning ps db known tables s a t h.1 f) (filter_type_rules t test ty h.0)
+IsTableOf-meaning ps db known tables s (Promote' _ (more_of-Node t a end_of-Node) def) ty h f =
+    IsTableOf-promote ps (meaning ps db tables a t) t def ty (IsTableOf-meaning ps db known tables s a t h.1 f) (promote_type_rules t def ty h.0)
+IsTableOf-meaning ps db known tables s (Rename' _ (more_of-Node t a end_of-Node) pairs) ty h f =
+    IsTableOf-rename (meaning ps db tables a t) t pairs ty (IsTableOf-meaning ps db known tables s a t h.1 f) (rename_type_rules t pairs ty h.0)
 IsTableOf-meaning ps db known tables s (Apply' _ (more_of-Node t a end_of-Node) call) ty h f = absurd h

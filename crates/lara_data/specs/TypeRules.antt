@@ -14,7 +14,7 @@ use Rattle.lara_semiring.specs.Values.{same_val_type}
 use Rattle.lara_data.specs.Vals.{Vals}
 use Rattle.lara_data.specs.Algebra.{common_vals, join_columns, union_columns, agg_columns}
 use Rattle.lara_data.specs.Extensions.{each_columns, renamed_columns}
-use Rattle.lara_data.specs.ExprTypes.{ExprTyping, key_expr_type, val_expr_type, same_expr_type, expr_type}
+use Rattle.lara_data.specs.ExprTypes.{key_expr_type, val_expr_type, same_expr_type, expr_type}
 use Rattle.lara_data.specs.declared.arg.Def.{Def}
 use Rattle.lara_data.specs.declared.arg.KeyDef.{KeyDef}
 use Rattle.lara_data.specs.declared.arg.NamePair.{NamePair}
