@@ -105,7 +105,7 @@ rename_meets at a ps c h =
 
 -- ---- maps
 
-plain_defined : (ds : List AstDef) → plain (defined ds) ≡ def_names (plain_defs ds)
+pub plain_defined : (ds : List AstDef) → plain (defined ds) ≡ def_names (plain_defs ds)
 plain_defined [] = refl
 plain_defined (d ∷ ds) = ap (λ ns. d.col.name.name ∷ ns) (plain_defined ds)
 
@@ -126,10 +126,10 @@ all_fit [] = refl
 all_fit (d ∷ ds) = and_from (same_expr_type (val_expr_type d.col.ty) (val_expr_type d.col.ty)) _ (same_expr_type_itself (val_expr_type d.col.ty)) (all_fit ds)
 
 -- the columns of a map are a table's
-record MapColumns (a : Columns) (ds : List AstDef) : Type 0 where
-  some : 0 < length ds
-  once : distinct (key_names a.keys ++ def_names (plain_defs ds)) ≡ true
-  few : too_many (map_columns a ds) ≡ false
+pub record MapColumns (a : Columns) (ds : List AstDef) : Type 0 where
+  pub some : 0 < length ds
+  pub once : distinct (key_names a.keys ++ def_names (plain_defs ds)) ≡ true
+  pub few : too_many (map_columns a ds) ≡ false
 
 names_defined : (ds : List Def) → val_names (map {A = Def} (λ d. d.col) ds) ≡ def_names ds
 names_defined [] = refl
@@ -138,7 +138,7 @@ names_defined (d ∷ ds) = ap (λ ns. d.col.name ∷ ns) (names_defined ds)
 not_past : (n : ℕ) → n ≤ most_columns → nat_lt most_columns n ≡ false
 not_past n h = grind (arith, nat_tests)
 
-columns_parts : (a : Columns) (ds : List AstDef) → are_columns (map_columns a ds).keys (map_columns a ds).vals ≡ true → MapColumns a ds
+pub columns_parts : (a : Columns) (ds : List AstDef) → are_columns (map_columns a ds).keys (map_columns a ds).vals ≡ true → MapColumns a ds
 unfolding each_columns too_many
 columns_parts a ds h =
     let few = few_of a.keys (map {A = Def} (λ d. d.col) (plain_defs ds)) h in

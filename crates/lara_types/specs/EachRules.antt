@@ -38,15 +38,15 @@ fit_rules a (d ∷ ds) = rule (first_word d.expr.at d.expr.form) TypesDiffer (is
 abbrev pub map_columns : Columns → List AstDef → Columns
 map_columns a ds = each_columns (each.Map (plain_defs ds)) a
 
--- A map whose first word is at this place, of a table with these columns: all names, then what the expressions are refused for,
--- then the types of all, and then the columns are a table's. Where the names differ and there is a definition, as the grammar
--- has it, they are none only where they are too many.
+-- Behind the names of a map, whose first word is at this place: what the expressions are refused for, then the types of all, and
+-- then the columns are a table's. Where the names differ and there is a definition, as the grammar has it, they are none only
+-- where they are too many.
+abbrev pub after_names : ℕ → Columns → List AstDef → List Rule
+after_names at a ds = exprs_rules a ds ++ (fit_rules a ds ++ rule at TooManyColumns (are_columns (map_columns a ds).keys (map_columns a ds).vals) ∷ [])
+
+-- a map of a table with these columns: no name is a key column's or defined before, and then the other rules
 abbrev pub map_rules : ℕ → Columns → List AstDef → List Rule
-map_rules at a ds =
-    once_rules (key_names a.keys) (defined ds)
-    ++ (exprs_rules a ds
-    ++ (fit_rules a ds
-    ++ rule at TooManyColumns (are_columns (map_columns a ds).keys (map_columns a ds).vals) ∷ []))
+map_rules at a ds = once_rules (key_names a.keys) (defined ds) ++ after_names at a ds
 
 -- ---- filters
 

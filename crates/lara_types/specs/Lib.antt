@@ -3,6 +3,7 @@ pub mod CheckedTrees
 pub mod Checks
 pub mod CheckedExprs
 pub mod DefTypes
+pub mod DefinedNames
 pub mod EachRuleLaws
 pub mod EachRules
 pub mod ExprRuleLaws

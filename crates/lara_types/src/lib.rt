@@ -3,6 +3,8 @@
 
 mod agg_places;
 mod differ;
+mod each_places;
+mod each_trees;
 mod each_types;
 mod expr_types;
 mod literal_entries;
@@ -15,6 +17,8 @@ mod rules;
 mod scripts;
 mod stored;
 mod trees;
+mod typed_exprs;
+mod written;
 
 pub use each_types::{type_filter, type_map, type_promote};
 pub use expr_types::expr_type;
