@@ -171,6 +171,9 @@ module _ (at : ℕ) (a : Columns) (ds : List AstDef) where
   abbrev last : List Rule
   last = rule at TooManyColumns of_table ∷ []
 
+  abbrev too_wide : Refusal
+  too_wide = record { at = at; kind = TooManyColumns }
+
   pub after_exprs : (r : Refusal) → Some r ≡ first_broken (exprs_rules a ds) → Some r ≡ first_broken (after_names at a ds)
   after_exprs r e = in_front (exprs_rules a ds) (fit_rules a ds ++ last) r e
 
@@ -182,15 +185,15 @@ module _ (at : ℕ) (a : Columns) (ds : List AstDef) where
       at_last : (o : Option Refusal) → o ≡ first_broken last → o ≡ first_broken (after_names at a ds)
       at_last o e = in_sequence (exprs_rules a ds) (fit_rules a ds ++ last) o (sym typed_all) (in_sequence (fit_rules a ds) last o (sym fit_all) e)
 
-      wide_rule : (b : Bool) → b ≡ not of_table → first_broken last ≡ cond b (Some (record { at = at; kind = TooManyColumns })) None
+      wide_rule : (b : Bool) → b ≡ not of_table → first_broken last ≡ cond b (Some (too_wide)) None
       unfolding first_broken
       wide_rule b e = by of_table b e
         where
-          by : (t b : Bool) → b ≡ not t → cond t None (Some (record { at = at; kind = TooManyColumns })) ≡ cond b (Some (record { at = at; kind = TooManyColumns })) None
-          by true b e = ap (λ x. cond x (Some (record { at = at; kind = TooManyColumns })) None) (sym e)
-          by false b e = ap (λ x. cond x (Some (record { at = at; kind = TooManyColumns })) None) (sym e)
+          by : (t b : Bool) → b ≡ not t → cond t None (Some (too_wide)) ≡ cond b (Some (too_wide)) None
+          by true b e = ap (λ x. cond x (Some (too_wide)) None) (sym e)
+          by false b e = ap (λ x. cond x (Some (too_wide)) None) (sym e)
 
-      pub after_wide : (r : Refusal) → true ≡ not of_table → r ≡ record { at = at; kind = TooManyColumns } → Some r ≡ first_broken (after_names at a ds)
+      pub after_wide : (r : Refusal) → true ≡ not of_table → r ≡ too_wide → Some r ≡ first_broken (after_names at a ds)
       after_wide r w own = at_last (Some r) (ap (λ (q : Refusal). Some q) own ∙ sym (wide_rule true w))
 
       pub after_met : false ≡ not of_table → None ≡ first_broken (after_names at a ds)
