@@ -45,6 +45,8 @@ mod tests;
 #[cfg(test)]
 mod tests_arguments;
 #[cfg(test)]
+mod tests_exprs;
+#[cfg(test)]
 mod tests_operators;
 #[cfg(test)]
 mod tests_plugins;
