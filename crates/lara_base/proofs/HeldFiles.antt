@@ -1,6 +1,6 @@
 -- How the files of a list change as one is put, added or taken away.
-use Rattle.std.proofs.Common.{◌≡◌, ℕ, ◌<◌, ◌≤◌, Bool, true, false, cond, not, List, [], ◌∷◌, ◌++◌, length, set, get_or, Option, Some, None, refl, sym, ap, ◌∙◌, arith, rules, subst}
-use Rattle.std.specs.Prelude.{option_map, slice_get, slice_set, filter, nat_lt, ◌&&◌, ◌==◌}
+use Rattle.std.proofs.Common.{◌≡◌, ◌≢◌, ℕ, ◌<◌, ◌≤◌, Bool, true, false, cond, not, List, [], ◌∷◌, ◌++◌, length, set, get_or, Option, Some, None, refl, sym, ap, ◌∙◌, arith, rules, subst}
+use Rattle.std.specs.Prelude.{option_map, slice_get, slice_set, filter, nat_lt}
 use Rattle.std.specs.Option.{option_or}
 use Rattle.std.specs.List.{find, position, position_or_len}
 use Rattle.std.specs.Map.{update}
@@ -8,26 +8,11 @@ use Rattle.std.proofs.lemmas.List.Folds.{find_at, find-set, find_past, find-appe
 use Rattle.std.proofs.lemmas.List.Sums.{position_or_len_is}
 use Rattle.std.proofs.lemmas.List.Quantifiers.{position-Some}
 use Rattle.std.proofs.lemmas.Option.{slice_get-get_or, slice_get_past}
-use borrow.Author.Tests.{eqb-true, eq-eqb}
 use Rattle.lara_base.specs.declared.file_name.FileName.{FileName}
-use Rattle.lara_base.specs.declared.file_name.FileName.TheVariants.{Catalog, Cells}
 use Rattle.lara_base.specs.declared.mem_depot.MemFile.{MemFile}
-use Rattle.lara_base.specs.Depots.{same_name, appended}
+use Rattle.lara_base.specs.Depots.{Files, same_name, appended}
 use Rattle.lara_base.specs.MemDepots.{is_named, files_in, place_in}
-
-both : (s t : Bool) → (s && t) ≡ true → (s ≡ true) × (t ≡ true)
-both true t h = (refl, h)
-both false t h = cc
-
-pub one_name : (a b : FileName) → same_name a b ≡ true → a ≡ b
-one_name Catalog Catalog h = refl
-one_name (Cells g n) (Cells k m) h = let p = both (g == k) (n == m) h in let x : g ≡ k = eqb-true g k p.0 in let y : n ≡ m = eqb-true n m p.1 in cc
-one_name Catalog (Cells k m) h = cc
-one_name (Cells g n) Catalog h = cc
-
-pub name_itself : (name : FileName) → same_name name name ≡ true
-name_itself Catalog = refl
-name_itself (Cells g n) = rw (eq-eqb g g refl, eq-eqb n n refl) refl
+use Rattle.lara_base.proofs.DepotFacts.{one_name, name_itself, other_name}
 
 placed : (p : MemFile → Bool) (files : List MemFile) (at : ℕ) (d : MemFile) → position p files ≡ Some at → at ≡ position_or_len p files
 placed p files at d h =
@@ -124,3 +109,6 @@ away_step (file ∷ files) name q = away_at file files (filter (λ file. not (sa
 
 pub put_away : (files : List MemFile) (name : FileName) → files_in (filter (λ file. not (same_name file.name name)) files) ≡ update same_name (files_in files) name None
 put_away files name = λ i q. away_step files name q i
+
+pub others_stay : (old new : List MemFile) (name other : FileName) (file : Option (List ℕ)) → files_in new ≡ update same_name (files_in old) name file → other ≢ name → Some (files_in new other) ≡ Some (files_in old other)
+others_stay old new name other file h apart = ap (λ (f : Files). Some (f other)) h ∙ rw (other_name name other apart) refl

@@ -1,6 +1,6 @@
 -- What a depot holds, where it tells, and what its calls do to its files.
 -- What changes is an equation, so where nothing is told before, nothing is told after, and the other way round.
-use Rattle.std.specs.Prelude.{◌≡◌, ◌⊎◌, ℕ, ◌-◌, ◌==◌, ◌&&◌, Bool, true, false, min, List, [], ◌++◌, length, take, drop, Option, Some, None, option_map, unwrap_or, IfSome}
+use Rattle.std.specs.Prelude.{◌≡◌, ◌≢◌, ◌⊎◌, ℕ, ◌-◌, ◌==◌, ◌&&◌, Bool, true, false, min, List, [], ◌++◌, length, take, drop, Option, Some, None, option_map, unwrap_or, IfSome}
 use Rattle.std.specs.Map.{update}
 use Rattle.lara_base.specs.Moves.{IsFront}
 use Rattle.lara_base.specs.declared.file_name.FileName.{FileName}
@@ -46,15 +46,15 @@ replaced bytes file = Some bytes
 abbrev pub removed : Option (List ℕ) → Option (List ℕ)
 removed file = None
 
--- a removal that failed left the file as it was, or none
+-- what a removal that failed may leave: the file as it was, or none
 abbrev pub MayRemove : Option Files → Option Files → FileName → Type 0
 MayRemove old new name = (new ≡ old) ⊎ Changes old new name removed
 
--- a beginning that failed left the file as it was, empty, or none
+-- what a failed call to make the file empty may leave: the file as it was, empty, or none
 abbrev pub MayBegin : Option Files → Option Files → FileName → Type 0
 MayBegin old new name = Changes old new name begun ⊎ MayRemove old new name
 
--- an addition that failed left the file as it was, or with a front of the piece behind its bytes
+-- what an addition that failed may leave: the file as it was, or with a front of the piece behind its bytes
 abbrev pub MayAppend : Option Files → Option Files → FileName → List ℕ → Type 0
 MayAppend old new name piece = (new ≡ old) ⊎ ((part : List ℕ) × IsFront part piece × Changes old new name (appended part))
 
@@ -62,6 +62,10 @@ MayAppend old new name piece = (new ≡ old) ⊎ ((part : List ℕ) × IsFront p
 abbrev pub Holds : Option Files → FileName → Option (List ℕ) → Type 0
 Holds told name file = IfSome told (λ files. files name ≡ file)
 
+-- where the depot tells, what stands under this name
+abbrev pub file_of : Option Files → FileName → Option (Option (List ℕ))
+file_of told name = option_map (λ (files : Files). files name) told
+
 -- each file but this one is as it was
 abbrev pub Others : Option Files → Option Files → FileName → Type 0
-Others old new name = (file : Option (List ℕ)) × Changes old new name (λ _. file)
+Others old new name = (other : FileName) → other ≢ name → file_of new other ≡ file_of old other

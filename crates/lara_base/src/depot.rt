@@ -2,7 +2,7 @@
 ghost use Rattle.std.specs.Prelude.{◌≡◌, ℕ, Option, IfOk, OnOk, OnErr, IfSome, option_map, length};
 ghost use Rattle.std.specs.Io.{ReadsAtMost};
 ghost use Rattle.lara_base.specs.Causes.{HasCause};
-ghost use Rattle.lara_base.specs.Depots.{Files, Reads, Changes, begun, appended, replaced, removed, MayBegin, MayAppend, MayRemove};
+ghost use Rattle.lara_base.specs.Depots.{Files, Reads, Changes, begun, appended, replaced, removed, MayBegin, MayAppend, MayRemove, Others};
 
 use crate::file_name::FileName;
 use crate::streams::Failed;
@@ -34,6 +34,7 @@ pub trait Depot {
     fn begin(&mut self, name: &FileName) -> Result<(), Failed>
         ensures ok { OnOk result (Changes (told self.old) (told self.new) name.now begun) }
         ensures err { OnErr result (MayBegin (told self.old) (told self.new) name.now) }
+        ensures others { Others (told self.old) (told self.new) name.now }
         ensures cause { HasCause (faults self.old) (faults self.new) result };
 
     /// Adds the bytes at the end of the file; an absent one counts as empty. After `Failed` the file has its old bytes
@@ -41,17 +42,20 @@ pub trait Depot {
     fn append(&mut self, name: &FileName, bytes: &[u8]) -> Result<(), Failed>
         ensures ok { OnOk result (Changes (told self.old) (told self.new) name.now (appended bytes.now)) }
         ensures err { OnErr result (MayAppend (told self.old) (told self.new) name.now bytes.now) }
+        ensures others { Others (told self.old) (told self.new) name.now }
         ensures cause { HasCause (faults self.old) (faults self.new) result };
 
     /// Makes the file consist of just these bytes. After `Failed` it is as before.
     fn replace(&mut self, name: &FileName, bytes: &[u8]) -> Result<(), Failed>
         ensures ok { OnOk result (Changes (told self.old) (told self.new) name.now (replaced bytes.now)) }
         ensures err { OnErr result (told self.new ≡ told self.old) }
+        ensures others { Others (told self.old) (told self.new) name.now }
         ensures cause { HasCause (faults self.old) (faults self.new) result };
 
     /// Makes the file absent. After `Failed` it is as before or absent.
     fn remove(&mut self, name: &FileName) -> Result<(), Failed>
         ensures ok { OnOk result (Changes (told self.old) (told self.new) name.now removed) }
         ensures err { OnErr result (MayRemove (told self.old) (told self.new) name.now) }
+        ensures others { Others (told self.old) (told self.new) name.now }
         ensures cause { HasCause (faults self.old) (faults self.new) result };
 }

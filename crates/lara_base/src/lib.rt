@@ -38,3 +38,6 @@ pub use write_sink::WriteSink;
 
 #[cfg(test)]
 mod tests;
+
+#[cfg(test)]
+mod tests_depot;

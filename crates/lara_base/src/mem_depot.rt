@@ -18,8 +18,8 @@ struct MemFile {
     bytes: Bytes,
 }
 
-/// Files in a list. It tells them. A call looks at each name at most once, and moves no bytes but those that it is given
-/// or asked for.
+/// Files in a list. It tells them. A call goes along the names once, and takes or gives only the bytes that it is asked
+/// for, so that its time grows with the number of files and with those bytes.
 #[derive(Drop)]
 pub struct MemDepot {
     alloc: Global,
@@ -145,7 +145,7 @@ impl Depot for MemDepot {
     ghost use Rattle.std.specs.Prelude.{◌↔◌, IsErr, IfOk, IfSome, MatchResult, Contains};
     ghost use Rattle.std.specs.Io.{ReadsAtMost};
     ghost use Rattle.lara_base.specs.Causes.{HasCause, Counts};
-    ghost use Rattle.lara_base.specs.Depots.{Reads, Changes, begun, appended, replaced, removed, MayBegin, MayAppend, MayRemove};
+    ghost use Rattle.lara_base.specs.Depots.{Reads, Changes, begun, appended, replaced, removed, MayBegin, MayAppend, MayRemove, Others};
     ghost use Rattle.lara_base.specs.MemDepots.{depot_files, depot_faults, depot_call, depot_fails, Goes};
 
     ghost told = { λ d. Some (depot_files d) };
@@ -191,6 +191,7 @@ impl Depot for MemDepot {
     fn begin(&mut self, name: &FileName) -> Result<(), Failed>
         ensures ok { OnOk result (Changes (Some (depot_files self.old)) (Some (depot_files self.new)) name.now begun) }
         ensures err { OnErr result (MayBegin (Some (depot_files self.old)) (Some (depot_files self.new)) name.now) }
+        ensures others { Others (Some (depot_files self.old)) (Some (depot_files self.new)) name.now }
         ensures cause { HasCause (depot_faults self.old) (depot_faults self.new) result }
 
         // The listed calls fail, and a call that finds no memory, which nothing asks for where the file is there. A call
@@ -211,6 +212,7 @@ impl Depot for MemDepot {
     fn append(&mut self, name: &FileName, bytes: &[u8]) -> Result<(), Failed>
         ensures ok { OnOk result (Changes (Some (depot_files self.old)) (Some (depot_files self.new)) name.now (appended bytes.now)) }
         ensures err { OnErr result (MayAppend (Some (depot_files self.old)) (Some (depot_files self.new)) name.now bytes.now) }
+        ensures others { Others (Some (depot_files self.old)) (Some (depot_files self.new)) name.now }
         ensures cause { HasCause (depot_faults self.old) (depot_faults self.new) result }
 
         // The listed calls fail, and a call that finds no memory, which nothing asks for where nothing is added to a file
@@ -231,6 +233,7 @@ impl Depot for MemDepot {
     fn replace(&mut self, name: &FileName, bytes: &[u8]) -> Result<(), Failed>
         ensures ok { OnOk result (Changes (Some (depot_files self.old)) (Some (depot_files self.new)) name.now (replaced bytes.now)) }
         ensures err { OnErr result (Some (depot_files self.new) ≡ Some (depot_files self.old)) }
+        ensures others { Others (Some (depot_files self.old)) (Some (depot_files self.new)) name.now }
         ensures cause { HasCause (depot_faults self.old) (depot_faults self.new) result }
 
         // The listed calls fail, and a call that finds no memory, which nothing asks for where nothing replaces a file
@@ -250,6 +253,7 @@ impl Depot for MemDepot {
     fn remove(&mut self, name: &FileName) -> Result<(), Failed>
         ensures ok { OnOk result (Changes (Some (depot_files self.old)) (Some (depot_files self.new)) name.now removed) }
         ensures err { OnErr result (MayRemove (Some (depot_files self.old)) (Some (depot_files self.new)) name.now) }
+        ensures others { Others (Some (depot_files self.old)) (Some (depot_files self.new)) name.now }
         ensures cause { HasCause (depot_faults self.old) (depot_faults self.new) result }
 
         // Just the listed calls fail, and leave each file as it was.
