@@ -1,6 +1,6 @@
 -- How the files of a list change as one is put, added or taken away.
-use Rattle.std.proofs.Common.{◌≡◌, ◌≢◌, ℕ, ◌<◌, ◌≤◌, Bool, true, false, cond, not, List, [], ◌∷◌, ◌++◌, length, set, get_or, Option, Some, None, refl, sym, ap, ◌∙◌, arith, rules, subst}
-use Rattle.std.specs.Prelude.{option_map, slice_get, slice_set, filter, nat_lt}
+use Rattle.std.proofs.Common.{◌≡◌, ◌≢◌, ℕ, ◌≤◌, Bool, true, false, cond, not, List, [], ◌∷◌, ◌++◌, length, set, get_or, Option, Some, None, refl, sym, ap, ◌∙◌, arith}
+use Rattle.std.specs.Prelude.{slice_set, filter, nat_lt}
 use Rattle.std.specs.Option.{option_or}
 use Rattle.std.specs.List.{find, position, position_or_len}
 use Rattle.std.specs.Map.{update}

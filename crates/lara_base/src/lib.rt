@@ -38,6 +38,5 @@ pub use write_sink::WriteSink;
 
 #[cfg(test)]
 mod tests;
-
 #[cfg(test)]
 mod tests_depot;

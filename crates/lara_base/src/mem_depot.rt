@@ -90,7 +90,12 @@ fn put(files: &mut Vec<MemFile>, name: &FileName, bytes: Bytes) -> Result<(), Al
 
 // Adds the bytes at the end of the file of this name, or puts a file of them behind the others.
 #[tactic(auto, using(crate::proofs::HeldFiles::no_file))]
-fn add(alloc: Global, files: &mut Vec<MemFile>, name: &FileName, bytes: &[u8]) -> Result<(), AllocError>
+fn add(
+    alloc: Global,
+    files: &mut Vec<MemFile>,
+    name: &FileName,
+    bytes: &[u8],
+) -> Result<(), AllocError>
     ensures ok { OnOk result (files_in files.new.items ≡ update same_name (files_in files.old.items) name.now (appended bytes.now (files_in files.old.items name.now))) }
     ensures err { OnErr result (files.new.items ≡ files.old.items) }
     ensures sure { IsSome (files_in files.old.items name.now) → bytes.now ≡ [] → IsOk result }
@@ -112,7 +117,12 @@ fn add(alloc: Global, files: &mut Vec<MemFile>, name: &FileName, bytes: &[u8]) -
 }
 
 // Puts a file of a copy of these bytes in the place of the one of this name, or behind the others.
-fn store(alloc: Global, files: &mut Vec<MemFile>, name: &FileName, bytes: &[u8]) -> Result<(), AllocError>
+fn store(
+    alloc: Global,
+    files: &mut Vec<MemFile>,
+    name: &FileName,
+    bytes: &[u8],
+) -> Result<(), AllocError>
     ensures ok { OnOk result (files_in files.new.items ≡ update same_name (files_in files.old.items) name.now (Some bytes.now)) }
     ensures err { OnErr result (files.new.items ≡ files.old.items) }
     ensures sure { IsSome (files_in files.old.items name.now) → bytes.now ≡ [] → IsOk result }

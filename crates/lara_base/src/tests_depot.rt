@@ -79,7 +79,10 @@ fn a_missing_file(rt: HostRuntime) -> Result<(), Fail> {
     assert_eq!(rt; read(&mut depot, &FileName::Catalog, 0), Ok(([0; 4], 0)));
     assert_eq!(rt; depot.remove(&FileName::Catalog), Ok(()));
     assert_eq!(rt; depot.append(&FileName::Catalog, b"m"), Ok(()));
-    assert_eq!(rt; read(&mut depot, &FileName::Catalog, 0), Ok((*b"m\0\0\0", 1)));
+    assert_eq!(rt;
+        read(&mut depot, &FileName::Catalog, 0),
+        Ok((*b"m\0\0\0", 1))
+    );
     Ok(())
 }
 

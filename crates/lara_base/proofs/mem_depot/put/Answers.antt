@@ -1,4 +1,4 @@
-use Rattle.std.proofs.Common.{rules, ◌≡◌, Some, None, sym, ◌∙◌, get_or, List, refl}
+use Rattle.std.proofs.Common.{rules, ◌≡◌, Some, None, get_or, List, refl}
 use Rattle.lara_base.specs.declared.mem_depot.MemFile.{MemFile}
 use Rattle.lara_base.specs.MemDepots.{place_in}
 use Rattle.lara_base.proofs.HeldFiles.{put_over, put_behind}

@@ -1,8 +1,7 @@
-use Rattle.std.proofs.Common.{rules, ◌≡◌, ◌∙◌, ap, not}
+use Rattle.std.proofs.Common.{rules, not}
 use Rattle.std.proofs.lemmas.Fn.{filter_same}
 use Rattle.lara_base.specs.declared.mem_depot.MemFile.{MemFile}
 use Rattle.lara_base.specs.Depots.{same_name}
-use Rattle.lara_base.specs.MemDepots.{files_in}
 use Rattle.lara_base.proofs.HeldFiles.{put_away}
 use Rattle.lara_base.proofs.mem_depot.take_away.Goals as goal
 
