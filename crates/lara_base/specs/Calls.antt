@@ -2,6 +2,10 @@
 use Rattle.std.specs.Prelude.{ℕ, ◌+◌, ◌-◌, ◌^◌, min, List}
 use Rattle.lara_base.specs.declared.calls.Calls.{Calls}
 
+-- the number of calls so far
+abbrev pub calls_made : Calls → ℕ
+calls_made c = c.made
+
 -- the number of the next call, counted from 1
 abbrev pub next_call : Calls → ℕ
 next_call c = min (c.made + 1) (2 ^ 64 - 1)

@@ -1,5 +1,7 @@
 pub mod Calls
 pub mod Causes
+pub mod Depots
+pub mod MemDepots
 pub mod MemSinks
 pub mod MemSources
 pub mod Moves

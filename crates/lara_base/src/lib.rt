@@ -4,10 +4,12 @@
 
 mod calls;
 mod copied;
+mod depot;
 mod file_name;
 mod list;
 mod list_order;
 mod list_traits;
+mod mem_depot;
 mod mem_sink;
 mod mem_source;
 mod name;
@@ -20,8 +22,10 @@ mod write_sink;
 
 pub use calls::Calls;
 pub use copied::Copied;
+pub use depot::Depot;
 pub use file_name::FileName;
 pub use list::{Bytes, List, Word};
+pub use mem_depot::MemDepot;
 pub use mem_sink::MemSink;
 pub use mem_source::MemSource;
 pub use name::{Name, goes_on, starts_name};
@@ -34,3 +38,5 @@ pub use write_sink::WriteSink;
 
 #[cfg(test)]
 mod tests;
+#[cfg(test)]
+mod tests_depot;
