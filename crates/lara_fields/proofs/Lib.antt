@@ -1,0 +1,3 @@
+pub mod EscapeFacts
+pub mod SkipFacts
+pub mod UnescapeFacts

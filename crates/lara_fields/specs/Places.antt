@@ -1,8 +1,8 @@
--- Where a reading stops: a field at its first byte, and fields one after the other at the first of them that has no reading.
-use Rattle.std.specs.Prelude.{◌≡◌, ℕ, Bool, true, false, nat_lt, List, length, take, drop, Result, Ok, Err, if◌then◌else◌}
+-- Where a reading of one field stops: at its first byte.
+use Rattle.std.specs.Prelude.{◌≡◌, ℕ, Bool, true, false, nat_lt, List, length, take, drop, Option, Some, None, Result, Ok, Err, if◌then◌else◌}
 use Rattle.std.proofs.Common.{◌⊎◌, sym, ◌∙◌, inl, inr}
 use Rattle.std.specs.Int.{Width, byte_len, from_be_bytes}
-use Rattle.lara_fields.specs.Fields.{number_at, bytes_at, kept, made}
+use Rattle.lara_fields.specs.Fields.{number_at, bytes_at, kept, made, told, picked}
 use Rattle.lara_fields.specs.Steps.{err_from_bind, read}
 use Rattle.lara_fields.specs.Numbers.{number_made}
 
@@ -37,3 +37,14 @@ kept_field {X} {r} rule law = record { stops = λ bytes left e. by bytes left (e
     by : (bytes : List ℕ) (left : ℕ) → (r bytes ≡ Err left) ⊎ ((x : X × List ℕ) × (r bytes ≡ Ok x) × ((if rule x.0 then Ok x else Err (length bytes)) ≡ Err left)) → left ≡ length bytes
     by bytes left (inl e) = law.stops bytes left e
     by bytes left (inr x) = broken bytes left x.0 (rule x.0.0) x.2
+
+pub picked_field : {X Y : Type 0} {r : List ℕ → Result (X × List ℕ) ℕ} (f : X → Option Y) → IsField r → IsField (picked f r)
+picked_field {X} {Y} {r} f law = record { stops = λ bytes left e. by bytes left (err_from_bind (r bytes) (λ x. told (length bytes) x.1 (f x.0)) left e) }
+  where
+    none : (bytes rest : List ℕ) (left : ℕ) (o : Option Y) → told (length bytes) rest o ≡ Err left → left ≡ length bytes
+    none bytes rest left None e = cc
+    none bytes rest left (Some y) e = absurd cc
+
+    by : (bytes : List ℕ) (left : ℕ) → (r bytes ≡ Err left) ⊎ ((x : X × List ℕ) × (r bytes ≡ Ok x) × (told (length bytes) x.1 (f x.0) ≡ Err left)) → left ≡ length bytes
+    by bytes left (inl e) = law.stops bytes left e
+    by bytes left (inr x) = none bytes x.0.1 left (f x.0.0) x.2
