@@ -1,2 +1,6 @@
+pub mod CodeOrder
+pub mod Decoding
+pub mod KeyCodes
+pub mod KeyReading
 pub mod Keys
 pub mod Precedence
