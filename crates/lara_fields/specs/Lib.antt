@@ -11,5 +11,6 @@ pub mod Skipping
 pub mod Steps
 pub mod Stopping
 pub mod TextCodes
+pub mod TextLengths
 pub mod TextOrder
 pub mod TextReaders

@@ -1,9 +1,10 @@
 -- Reading one after the other, as a loop does: what was read before, and what is still read.
-use Rattle.std.proofs.Common.{◌≡◌, ℕ, suc, ◌-◌, ◌+◌, ◌≤◌, ◌<◌, List, [], ◌∷◌, ◌++◌, Option, Some, Result, Ok, Err, refl, sym, ap, ◌∙◌, append_assoc, arith, get_or, drop, length, drop-cons, add-one, length-append}
+use Rattle.std.proofs.Common.{◌≡◌, ℕ, suc, ◌-◌, ◌+◌, ◌≤◌, ◌<◌, List, [], ◌∷◌, ◌++◌, Option, Some, None, Result, Ok, Err, refl, sym, ap, ◌∙◌, append_assoc, arith, get_or, drop, length, drop-cons, add-one, length-append}
 use Rattle.std.specs.Prelude.{slice_get}
 use Rattle.std.proofs.lemmas.List.{append-nil, drop_all}
 use Rattle.lara_base.specs.Results.{◌>>=◌}
 use Rattle.lara_fields.specs.Fields.{Stops, each, chain}
+use Rattle.lara_fields.specs.Skipping.{behind}
 use Rattle.lara_fields.specs.declared.stop.Stop.{Stop}
 use Rattle.lara_fields.specs.declared.stop.Stop.TheVariants.{Refused, Memory}
 
@@ -85,3 +86,30 @@ module _ {T X : Type 0} where
   each_done r front ts i bytes total h so_far =
       let one : with_front front (each r (drop i ts) bytes) ≡ Ok (front, bytes) = rw (drop_all i ts h) (ap (λ (xs : List X). listed xs bytes) (append-nil front)) in
       sym so_far ∙ one
+
+-- ---- what is behind one after the other, with no value made
+
+module _ {T X : Type 0} (r : T → List ℕ → Result (X × List ℕ) ℕ) (ts : List T) (i : ℕ) (d : T) (bytes after : List ℕ) (total : Option (List ℕ)) where
+  one_more : (q : Result (X × List ℕ) ℕ) (rest : List T) → behind q ≡ Some after → behind (q >>= λ v. each r rest v.1 >>= λ vs. Ok (v.0 ∷ vs.0, vs.1)) ≡ behind (each r rest after)
+  one_more (Ok v) rest e = let same : v.1 ≡ after = cc in rw (← same) (whole v.0 (each r rest v.1))
+    where
+      whole : (x : X) (q : Result (List X × List ℕ) ℕ) → behind (q >>= λ vs. Ok (x ∷ vs.0, vs.1)) ≡ behind q
+      whole x (Ok vs) = refl
+      whole x (Err left) = refl
+  one_more (Err left) rest e = absurd cc
+
+  none_more : (q : Result (X × List ℕ) ℕ) (rest : List T) → behind q ≡ None → behind (q >>= λ v. each r rest v.1 >>= λ vs. Ok (v.0 ∷ vs.0, vs.1)) ≡ None
+  none_more (Ok v) rest e = absurd cc
+  none_more (Err left) rest e = refl
+
+  pub behind_more : i < length ts → Some after ≡ behind (r (get_or ts i d) bytes) → behind (each r (drop i ts) bytes) ≡ total → behind (each r (drop (i + 1) ts) after) ≡ total
+  unfolding each
+  behind_more h e s = sym (one_more (r (get_or ts i d) bytes) (drop (i + 1) ts) (sym e)) ∙ ap (λ (t : List T). behind (each r t bytes)) (sym (next ts i d h)) ∙ s
+
+  pub behind_ends : i < length ts → None ≡ behind (r (get_or ts i d) bytes) → behind (each r (drop i ts) bytes) ≡ total → None ≡ total
+  unfolding each
+  behind_ends h e s = sym (none_more (r (get_or ts i d) bytes) (drop (i + 1) ts) (sym e)) ∙ ap (λ (t : List T). behind (each r t bytes)) (sym (next ts i d h)) ∙ s
+
+  pub behind_done : length ts ≤ i → behind (each r (drop i ts) bytes) ≡ total → Some bytes ≡ total
+  unfolding each
+  behind_done h s = ap (λ (t : List T). behind (each r t bytes)) (sym (drop_all i ts h)) ∙ s

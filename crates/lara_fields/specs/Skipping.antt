@@ -1,5 +1,5 @@
 -- What is behind a field at the front of bytes, with no value made.
-use Rattle.std.specs.Prelude.{◌≡◌, ℕ, suc, ◌+◌, ◌-◌, Bool, true, false, ◌&&◌, ◌||◌, ◌==◌, nat_le, List, length, Option, Some, None, Result, Ok, Err, if◌then◌else◌}
+use Rattle.std.specs.Prelude.{◌≡◌, ℕ, suc, ◌+◌, Bool, true, false, ◌&&◌, ◌||◌, ◌==◌, nat_le, List, length, Option, Some, None, Result, Ok, Err, if◌then◌else◌}
 use Rattle.std.specs.List.{list_all}
 use Rattle.std.proofs.Common.{refl, sym, ap, ◌∙◌, arith}
 use Rattle.std.proofs.Math.Bool.{and_assoc}
@@ -12,11 +12,6 @@ use Rattle.lara_fields.specs.TextCodes.{with_byte, unescaped, or_refused, text_o
 abbrev pub behind : {X : Type 0} → Result (X × List ℕ) ℕ → Option (List ℕ)
 behind (Ok x) = Some x.1
 behind (Err left) = None
-
--- the length of what was read
-abbrev pub length_read : {X : Type 0} → ℕ → Result (X × List ℕ) ℕ → Option ℕ
-length_read total (Ok x) = Some (total - length x.1)
-length_read total (Err left) = None
 
 -- so many bytes are a text, or where all are FF, what stands for the longer ones
 abbrev pub is_kind : ℕ → Bool → Bool

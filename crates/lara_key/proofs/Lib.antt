@@ -1,1 +1,3 @@
+pub mod BehindFacts
+pub mod BoundFacts
 pub mod WorkedKeys

@@ -4,3 +4,5 @@ pub mod KeyCodes
 pub mod KeyReading
 pub mod Keys
 pub mod Precedence
+pub mod PrefixLengths
+pub mod Prefixes
