@@ -51,6 +51,14 @@ told left rest (Some y) = Ok (y, rest)
 abbrev pub picked : {X Y : Type 0} → (X → Option Y) → (List ℕ → Result (X × List ℕ) ℕ) → List ℕ → Result (Y × List ℕ) ℕ
 picked f read bytes = read bytes >>= λ x. told (length bytes) x.1 (f x.0)
 
+-- fields that are one: what breaks in them is refused at their first byte
+abbrev pub at_first : {X : Type 0} → ℕ → Result (X × List ℕ) ℕ → Result (X × List ℕ) ℕ
+at_first left (Ok x) = Ok x
+at_first left (Err e) = Err left
+
+abbrev pub joined : {X : Type 0} → (List ℕ → Result (X × List ℕ) ℕ) → List ℕ → Result (X × List ℕ) ℕ
+joined read bytes = at_first (length bytes) (read bytes)
+
 -- one after the other, each by what it is of
 unfoldable pub each : {T X : Type 0} → (T → List ℕ → Result (X × List ℕ) ℕ) → List T → List ℕ → Result (List X × List ℕ) ℕ
 each read [] bytes = Ok ([], bytes)

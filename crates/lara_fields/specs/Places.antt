@@ -2,7 +2,7 @@
 use Rattle.std.specs.Prelude.{◌≡◌, ℕ, Bool, true, false, nat_lt, List, length, take, drop, Option, Some, None, Result, Ok, Err, if◌then◌else◌}
 use Rattle.std.proofs.Common.{◌⊎◌, sym, ◌∙◌, inl, inr}
 use Rattle.std.specs.Int.{Width, byte_len, from_be_bytes}
-use Rattle.lara_fields.specs.Fields.{number_at, bytes_at, kept, made, told, picked}
+use Rattle.lara_fields.specs.Fields.{number_at, bytes_at, kept, made, told, picked, at_first, joined}
 use Rattle.lara_fields.specs.Steps.{err_from_bind, read}
 use Rattle.lara_fields.specs.Numbers.{number_made}
 
@@ -48,3 +48,10 @@ picked_field {X} {Y} {r} f law = record { stops = λ bytes left e. by bytes left
     by : (bytes : List ℕ) (left : ℕ) → (r bytes ≡ Err left) ⊎ ((x : X × List ℕ) × (r bytes ≡ Ok x) × (told (length bytes) x.1 (f x.0) ≡ Err left)) → left ≡ length bytes
     by bytes left (inl e) = law.stops bytes left e
     by bytes left (inr x) = none bytes x.0.1 left (f x.0.0) x.2
+
+pub joined_field : {X : Type 0} (r : List ℕ → Result (X × List ℕ) ℕ) → IsField (joined r)
+joined_field {X} r = record { stops = λ bytes left e. by (length bytes) left (r bytes) e }
+  where
+    by : (n left : ℕ) (q : Result (X × List ℕ) ℕ) → at_first n q ≡ Err left → left ≡ n
+    by n left (Ok x) e = absurd cc
+    by n left (Err d) e = cc

@@ -7,7 +7,7 @@ use Rattle.std.proofs.lemmas.List.{append-nil}
 use Rattle.std.proofs.lemmas.List.Folds.{list_all-append}
 use Rattle.lara_base.specs.Results.{◌>>=◌}
 use Rattle.lara_base.specs.Texts.{is_byte}
-use Rattle.lara_fields.specs.Fields.{kept, both, made, ended, whole, told, picked}
+use Rattle.lara_fields.specs.Fields.{kept, both, made, ended, whole, told, picked, at_first, joined}
 use Rattle.lara_fields.specs.Steps.{ok_from_bind, ok_from_rule, ok_is, read}
 
 -- all are bytes
@@ -109,6 +109,19 @@ same_reader {X} {P} {Q} {c} {r} {s} same to from law = record { found = found; a
 
     again : (x : X) (rest : List ℕ) → Q x → s (c x ++ rest) ≡ Ok (x, rest)
     again x rest q = same (c x ++ rest) ∙ law.again x rest (from x q)
+
+pub joined_reader : {X : Type 0} {P : X → Type 0} {c : X → List ℕ} {r : List ℕ → Result (X × List ℕ) ℕ} → IsReader P c r → IsReader P c (joined r)
+joined_reader {X} {P} {c} {r} law = record { found = found; again = again }
+  where
+    by : (left : ℕ) (q : Result (X × List ℕ) ℕ) (x : X) (rest : List ℕ) → at_first left q ≡ read x rest → q ≡ read x rest
+    by left (Ok y) x rest e = e
+    by left (Err d) x rest e = absurd cc
+
+    found : (bytes : List ℕ) (x : X) (rest : List ℕ) → are_bytes bytes ≡ true → joined r bytes ≡ Ok (x, rest) → P x × (bytes ≡ c x ++ rest)
+    found bytes x rest h e = law.found bytes x rest h (by (length bytes) (r bytes) x rest e)
+
+    again : (x : X) (rest : List ℕ) → P x → joined r (c x ++ rest) ≡ Ok (x, rest)
+    again x rest h = rw (law.again x rest h) refl
 
 -- ---- all of the bytes
 
