@@ -39,6 +39,15 @@ several xs = Ok xs
 abbrev all : {X : Type 0} → List X → List ℕ → Result (List X × List ℕ) ℕ
 all xs rest = Ok (xs, rest)
 
+abbrev several_not : {X : Type 0} → ℕ → Result (List X) ℕ
+several_not left = Err left
+
+abbrev refused : {X : Type 0} → ℕ → Result (X × List ℕ) ℕ
+refused left = Err left
+
+left_is : {X : Type 0} (c d : ℕ) → several_not {X = X} c ≡ several_not d → c ≡ d
+left_is c d e = cc
+
 module _ {T X : Type 0} (IsOne : T → X → Type 0) (code : X → List ℕ) (r : T → List ℕ → Result (X × List ℕ) ℕ) (law : (t : T) → IsReader (IsOne t) code (r t)) where
   pub each_code_found : (ts : List T) (bytes : List ℕ) (xs : List X) → are_bytes bytes ≡ true → whole (each r ts) bytes ≡ Ok xs → IsCodeOf IsOne code ts bytes xs
   each_code_found ts bytes xs h e = let g = whole_found (each_reader law ts) bytes xs h e in record { kinds = g.0; bytes_are = g.1 }
@@ -111,3 +120,39 @@ module _ {T X : Type 0} (IsOne : T → X → Type 0) (code : X → List ℕ) (r 
   -- what stops is no code
   pub each_no_code : (ts : List T) (bytes : List ℕ) (left : ℕ) → whole (each r ts) bytes ≡ Err left → (xs : List X) → IsCodeOf IsOne code ts bytes xs → ⊥
   each_no_code ts bytes left e xs c = let g = each_code_again ts bytes xs c in cc
+
+  -- ---- the place is one, and is that of the reading
+
+  module _ (field : (t : T) → IsField (r t)) where
+    none_here : (t : T) (bytes : List ℕ) (q : Result (X × List ℕ) ℕ) → are_bytes bytes ≡ true → r t bytes ≡ q → (Begins (IsOne t) code bytes → ⊥) → r t bytes ≡ Err (length bytes)
+    none_here t bytes (Ok x) h e none = let f = (law t).found bytes x.0 x.1 h e in absurd (none (record { one = x.0; rest = x.1; is_one = f.0; bytes_are = f.1 }))
+    none_here t bytes (Err left) h e none = e ∙ ap (λ (n : ℕ). refused n) ((field t).stops bytes left e)
+
+    ended_left : (bytes : List ℕ) → 0 < length bytes → whole (each r []) bytes ≡ Err (length bytes)
+    unfolding each
+    ended_left [] h = absurd (omega arith)
+    ended_left (b ∷ bs) h = refl
+
+    -- where fields stop, the reading has all from that place on left
+    pub each_from_stops : (ts : List T) (bytes : List ℕ) (at : ℕ) → are_bytes bytes ≡ true → StopsAt IsOne code ts bytes at → (at ≤ length bytes) × (whole (each r ts) bytes ≡ Err (length bytes - at))
+    unfolding StopsAt
+    each_from_stops [] bytes at h s =
+        let z : length bytes ≡ length bytes - at = omega (arith, s.0) in
+        (omega (arith, s.0), ended_left bytes s.1 ∙ ap (λ (n : ℕ). several_not n) z)
+    each_from_stops (t ∷ ts) bytes at h (inl s) =
+        let z : length bytes ≡ length bytes - at = omega (arith, s.0) in
+        (omega (arith, s.0), whole_cons t ts bytes ∙ rw (none_here t bytes (r t bytes) h refl s.1) (ap (λ (n : ℕ). several_not n) z))
+    each_from_stops (t ∷ ts) bytes at h (inr s) =
+        let rest = s.0.rest in
+        let more = each_from_stops ts rest s.1 (bytes_behind (code s.0.one) rest (rw s.0.bytes_are at h)) s.3 in
+        let all : length bytes ≡ length (code s.0.one) + length rest = ap length s.0.bytes_are ∙ length-append (code s.0.one) rest in
+        let z : length rest - s.1 ≡ length bytes - at = omega (arith, all, s.2, more.0) in
+        (omega (arith, all, s.2, more.0), whole_cons t ts bytes ∙ rw (begins_read t bytes s.0, more.1) (ap (λ (n : ℕ). several_not n) z))
+
+    -- fields stop at one place
+    pub stops_once : (ts : List T) (bytes : List ℕ) (i j : ℕ) → are_bytes bytes ≡ true → StopsAt IsOne code ts bytes i → StopsAt IsOne code ts bytes j → i ≡ j
+    stops_once ts bytes i j h p q =
+        let a = each_from_stops ts bytes i h p in
+        let b = each_from_stops ts bytes j h q in
+        let same : length bytes - i ≡ length bytes - j = left_is (length bytes - i) (length bytes - j) (sym a.1 ∙ b.1) in
+        omega (arith, a.0, b.0, same)
