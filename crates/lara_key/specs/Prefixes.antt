@@ -149,4 +149,10 @@ raises (b ∷ bs) = raises_behind b bs (prefix_bound bs) (raises bs)
 pub prefix_raises : (prefix : List ℕ) (bound : Option (List ℕ)) → bound ≡ prefix_bound prefix → Raises prefix bound
 prefix_raises prefix bound e = rw e (raises prefix)
 
-pub ruleset prefix_laws = (prefix_range, prefix_raises)
+-- where each byte is FF there is no bound
+pub none_from_full : (prefix : List ℕ) → are_full prefix ≡ true → prefix_bound prefix ≡ None
+unfolding prefix_bound
+none_from_full [] h = refl
+none_from_full (b ∷ bs) h = let p = and_parts (b == 255) (are_full bs) h in rw (none_from_full bs p.1, p.0) refl
+
+pub ruleset prefix_laws = (prefix_range, prefix_raises, none_from_full)

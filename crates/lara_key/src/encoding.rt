@@ -1,5 +1,5 @@
 //! Keys as bytes that keep their order.
-ghost use Rattle.std.specs.Prelude.{◌≡◌, ◌++◌, true, OnOk, IfOk};
+ghost use Rattle.std.specs.Prelude.{◌≡◌, [], ◌++◌, true, OnOk, IfOk, IsOk};
 ghost use Rattle.lara_key.specs.CodeOrder.{KeepOrder};
 ghost use Rattle.lara_key.specs.KeyCodes.{key_code, tuple_code};
 ghost use Rattle.lara_key.specs.Keys.{tuple_has};
@@ -23,7 +23,8 @@ fn push_column(out: &mut Bytes, column: &KeyVal) -> Result<(), AllocError>
 
 /// The code of a tuple: the codes of its columns one after the other.
 pub fn encode(alloc: Global, tuple: &Tuple) -> Result<Bytes, AllocError>
-    ensures { IfOk result (λ bytes. bytes ≡ tuple_code tuple.now) }
+    ensures code { IfOk result (λ bytes. bytes ≡ tuple_code tuple.now) }
+    ensures empty { tuple.now ≡ [] → IsOk result }
 {
     let mut out = List::new(alloc);
     for column in tuple.as_slice() {

@@ -1,6 +1,6 @@
 //! The byte strings that begin with a prefix.
-ghost use Rattle.std.specs.Prelude.{◌≡◌, ◌<◌, ◌≤◌, ◌-◌, IfOk, length, take, slice_index};
-ghost use Rattle.lara_key.specs.Prefixes.{IsRangeOf, Raises, prefix_bound};
+ghost use Rattle.std.specs.Prelude.{◌≡◌, ◌<◌, ◌≤◌, ◌-◌, None, true, IfOk, IsOk, length, take, slice_index};
+ghost use Rattle.lara_key.specs.Prefixes.{IsRangeOf, Raises, are_full, prefix_bound};
 
 use lara_base::{Bytes, List};
 use std::alloc::{AllocError, Global};
@@ -22,7 +22,8 @@ fn kept_len(prefix: &[u8]) -> usize
 /// The prefix up to its last byte that is not FF, and that raised by one.
 #[tactic(auto, using(crate::proofs::BoundFacts::bound_facts))]
 fn bound_of(alloc: Global, prefix: &[u8]) -> Result<Option<Bytes>, AllocError>
-    ensures { IfOk result (λ bound. bound ≡ prefix_bound prefix.now) }
+    ensures bound { IfOk result (λ bound. bound ≡ prefix_bound prefix.now) }
+    ensures none { prefix_bound prefix.now ≡ None → IsOk result }
 {
     let count = kept_len(prefix);
     if count == 0 {
@@ -39,6 +40,7 @@ fn bound_of(alloc: Global, prefix: &[u8]) -> Result<Option<Bytes>, AllocError>
 pub fn after_prefix(alloc: Global, prefix: &[u8]) -> Result<Option<Bytes>, AllocError>
     ensures value { IfOk result (λ bound. bound ≡ prefix_bound prefix.now) }
     ensures raised { IfOk result (λ bound. Raises prefix.now bound) }
+    ensures none { are_full prefix.now ≡ true → IsOk result }
     ensures range { IfOk result (λ bound. IsRangeOf prefix.now bound) }
 {
     bound_of(alloc, prefix)

@@ -1,5 +1,5 @@
 //! Rows as bytes.
-ghost use Rattle.std.specs.Prelude.{◌≡◌, ◌++◌, true, OnOk, IfOk};
+ghost use Rattle.std.specs.Prelude.{◌≡◌, [], ◌++◌, true, OnOk, IfOk, IsOk};
 ghost use Rattle.lara_semiring.specs.RowCodes.{path_code, value_code, row_code};
 ghost use Rattle.lara_semiring.specs.RowDecoding.{AreApart};
 ghost use Rattle.lara_semiring.specs.Rows.{row_has};
@@ -41,7 +41,8 @@ fn push_value(out: &mut Bytes, value: &Value) -> Result<(), AllocError>
 
 /// The code of a row: the codes of its columns one after the other.
 pub fn encode_row(alloc: Global, row: &Row) -> Result<Bytes, AllocError>
-    ensures { IfOk result (λ bytes. bytes ≡ row_code row.now) }
+    ensures code { IfOk result (λ bytes. bytes ≡ row_code row.now) }
+    ensures empty { row.now ≡ [] → IsOk result }
 {
     let mut out = List::new(alloc);
     for value in row.as_slice() {
