@@ -17,3 +17,5 @@ pub use prefix::after_prefix;
 
 #[cfg(test)]
 mod tests;
+#[cfg(test)]
+mod tests_codes;
