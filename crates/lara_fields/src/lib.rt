@@ -14,3 +14,6 @@ pub use numbers::{
 pub use stop::Stop;
 pub use texts::{push_content, push_text, text_at};
 pub use texts_behind::text_behind;
+
+#[cfg(test)]
+mod tests;
