@@ -1,1 +1,4 @@
+pub mod BehindFacts
+pub mod BoundFacts
+pub mod WorkedCodes
 pub mod WorkedKeys

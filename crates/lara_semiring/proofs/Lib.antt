@@ -6,6 +6,7 @@ pub mod MinPlusKind
 pub mod OverFacts
 pub mod PathKind
 pub mod ValueKinds
+pub mod WorkedCodes
 pub mod WorkedFlags
 pub mod WorkedLasts
 pub mod WorkedMaxMin

@@ -12,6 +12,9 @@ pub mod MinPlusVals
 pub mod PathVals
 pub mod Paths
 pub mod Products
+pub mod RowCodes
+pub mod RowDecoding
+pub mod RowReading
 pub mod Rows
 pub mod Semirings
 pub mod ValueProducts

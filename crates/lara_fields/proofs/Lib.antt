@@ -1,0 +1,4 @@
+pub mod EscapeFacts
+pub mod SkipFacts
+pub mod UnescapeFacts
+pub mod WorkedFields

@@ -1,0 +1,16 @@
+pub mod Fields
+pub mod Flags
+pub mod Lists
+pub mod Loops
+pub mod NumberOrder
+pub mod Numbers
+pub mod OrderedCodes
+pub mod Places
+pub mod Readers
+pub mod Skipping
+pub mod Steps
+pub mod Stopping
+pub mod TextCodes
+pub mod TextLengths
+pub mod TextOrder
+pub mod TextReaders
