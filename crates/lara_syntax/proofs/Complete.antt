@@ -75,7 +75,7 @@ literal_is (val.Flag false) = refl
 literal_is val.Inf = refl
 literal_is val.None = refl
 
-lit_reads : (x : AstLit) (ts us : Items) → Lit x ts us → r.lit ts ≡ read_of x us
+pub lit_reads : (x : AstLit) (ts us : Items) → Lit x ts us → r.lit ts ≡ read_of x us
 unfolding r.lit
 lit_reads x ts us h = as_reads r.lit_at r.literal_of (literal_word x.value) x.value x.at ts us (literal_is x.value) h
 

@@ -113,16 +113,16 @@ atom_by-reads levels i ii taken w = call_by-reads levels i ii taken (next_as r.f
 atom_with-reads : (levels : ℕ) (i : ExprReader) → ReadEach i → ReadEach (r.atom_with levels i)
 atom_with-reads levels i ii taken = reads_bind peek (r.atom_by levels i taken) reads_peek (atom_by-reads levels i ii taken)
 
-product_with-reads : (limit : Count) (p : ExprReader) → ReadEach p → ReadEach (r.product_with limit p)
+pub product_with-reads : (limit : Count) (p : ExprReader) → ReadEach p → ReadEach (r.product_with limit p)
 product_with-reads limit p ip = chain-reads (r.binding two.Mul) limit p ip
 
-sum_with-reads : (limit : Count) (p : ExprReader) → ReadEach p → ReadEach (r.sum_with limit p)
+pub sum_with-reads : (limit : Count) (p : ExprReader) → ReadEach p → ReadEach (r.sum_with limit p)
 sum_with-reads limit p ip = chain-reads (r.binding two.Add) limit (r.product_with limit p) (product_with-reads limit p ip)
 
-cat_with-reads : (limit : Count) (p : ExprReader) → ReadEach p → ReadEach (r.cat_with limit p)
+pub cat_with-reads : (limit : Count) (p : ExprReader) → ReadEach p → ReadEach (r.cat_with limit p)
 cat_with-reads limit p ip = chain-reads (r.binding two.Cat) limit (r.sum_with limit p) (sum_with-reads limit p ip)
 
-comparison_with-reads : (limit : Count) (p : ExprReader) → ReadEach p → ReadEach (r.comparison_with limit p)
+pub comparison_with-reads : (limit : Count) (p : ExprReader) → ReadEach p → ReadEach (r.comparison_with limit p)
 comparison_with-reads limit p ip = pair-reads (r.binding two.Eq) limit (r.cat_with limit p) (cat_with-reads limit p ip)
 
 pub negated_rest-reads : (i : ExprReader) → ReadEach i → (taken : Count) (at : ℕ) → IsReader (r.negated_rest i taken at)
@@ -135,10 +135,10 @@ negation_by-reads levels i c ii ic taken w = ic taken
 negation_with-reads : (levels : ℕ) (i c : ExprReader) → ReadEach i → ReadEach c → ReadEach (r.negation_with levels i c)
 negation_with-reads levels i c ii ic taken = reads_bind peek (r.negation_by levels i c taken) reads_peek (negation_by-reads levels i c ii ic taken)
 
-conjunction_with-reads : (limit : Count) (p : ExprReader) → ReadEach p → ReadEach (r.conjunction_with limit p)
+pub conjunction_with-reads : (limit : Count) (p : ExprReader) → ReadEach p → ReadEach (r.conjunction_with limit p)
 conjunction_with-reads limit p ip = chain-reads (r.binding two.And) limit p ip
 
-disjunction_with-reads : (limit : Count) (p : ExprReader) → ReadEach p → ReadEach (r.disjunction_with limit p)
+pub disjunction_with-reads : (limit : Count) (p : ExprReader) → ReadEach p → ReadEach (r.disjunction_with limit p)
 disjunction_with-reads limit p ip = chain-reads (r.binding two.Or) limit (r.conjunction_with limit p) (conjunction_with-reads limit p ip)
 
 then_word_by-reads : (w : Option Lexeme) → IsReader (r.then_word_by w)

@@ -1,8 +1,11 @@
 pub mod Blanks
 pub mod Complete
 pub mod Counts
+pub mod ExprChains
+pub mod ExprComplete
 pub mod ExprLoops
 pub mod ExprReaders
+pub mod ExprSound
 pub mod Gather
 pub mod ItemLaws
 pub mod Levels
