@@ -85,7 +85,7 @@ turn_sound : (tightly : ℕ) (X : Part) (limit : Count) (p : ExprReader) → Rea
     → ExprCounts (Chain tightly X) limit taken left ts0 ts → turns (r.operated tightly limit p) left ts ≡ read_of x u → ExprCounts (Chain tightly X) limit taken x ts0 u
 turn_sound tightly X limit p ip ps fuel next taken left op (Ok (y, m)) ts0 ts x u n j lt before e =
     next taken y ts0 m x u (omega (arith, lt, joined-shortens limit p ip left op ts y m j))
-    (joined_sound tightly X (Chain tightly X) (Chain tightly X) limit p ps (more {tightly = tightly} {X = X}) taken left op ts0 ts y m before n j)
+    (joined_sound tightly X (Chain tightly X) (Chain tightly X) limit p ps (more) taken left op ts0 ts y m before n j)
     (sym (chain-goes tightly limit p ip left op ts y m n j) ∙ e)
 turn_sound tightly X limit p ip ps fuel next taken left op (Err d) ts0 ts x u n j lt before e =
     absurd (err_ok {A = CountedExpr} d (x, u) (sym (chain-fails tightly limit p ip left op ts (faults.Stopped d) n j) ∙ e))
@@ -108,14 +108,14 @@ lone_sound X Y limit taken x ts u w s = record { n = s.n; total = s.total; withi
 chain_sound : (tightly : ℕ) (X : Part) (limit : Count) (p : ExprReader) → ReadEach p → PartSound X limit p → PartSound (Chain tightly X) limit (r.chain tightly limit p)
 chain_sound tightly X limit p ip ps taken le ts x u e =
     let a = bind_ok (p taken ts) (turns (r.operated tightly limit p)) (x, u) e in
-    let first = lone_sound X (Chain tightly X) limit taken a.0 ts a.1 (one {tightly = tightly} {X = X}) (ps taken le ts a.0 a.1 a.2) in
+    let first = lone_sound X (Chain tightly X) limit taken a.0 ts a.1 (one) (ps taken le ts a.0 a.1 a.2) in
     rest_sound tightly X limit p ip ps (suc (length a.1)) taken a.0 ts a.1 x u (omega arith) first a.3
 
 pair_by_sound : (tightly : ℕ) (X : Part) (limit : Count) (p : ExprReader) → PartSound X limit p → (taken : Count) (left : CountedExpr) (o : Option TwoOp) (ts0 ts : Items) (x : CountedExpr) (u : Items)
     → r.next_two tightly (head_word ts) ≡ o → ExprCounts X limit taken left ts0 ts → r.pair_by limit p left o ts ≡ read_of x u → ExprCounts (Pair tightly X) limit taken x ts0 u
 pair_by_sound tightly X limit p ps taken left None ts0 ts x u n before e =
-    give_to (λ y q. ExprCounts (Pair tightly X) limit taken y ts0 q) left ts x u e (lone_sound X (Pair tightly X) limit taken left ts0 ts (alone {tightly = tightly} {X = X}) before)
-pair_by_sound tightly X limit p ps taken left (Some op) ts0 ts x u n before e = joined_sound tightly X X (Pair tightly X) limit p ps (both {tightly = tightly} {X = X}) taken left op ts0 ts x u before n e
+    give_to (λ y q. ExprCounts (Pair tightly X) limit taken y ts0 q) left ts x u e (lone_sound X (Pair tightly X) limit taken left ts0 ts (alone) before)
+pair_by_sound tightly X limit p ps taken left (Some op) ts0 ts x u n before e = joined_sound tightly X X (Pair tightly X) limit p ps (both) taken left op ts0 ts x u before n e
 
 pair_sound : (tightly : ℕ) (X : Part) (limit : Count) (p : ExprReader) → PartSound X limit p → PartSound (Pair tightly X) limit (r.pair tightly limit p)
 pair_sound tightly X limit p ps taken le ts x u e =
