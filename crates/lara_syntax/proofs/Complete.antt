@@ -9,6 +9,7 @@ use Rattle.lara_semiring.specs.declared.value.ValType.{ValType}
 use Rattle.lara_semiring.specs.declared.value.ValType.TheVariants as val_type_of
 use Rattle.lara_syntax.specs.declared.item.Lexeme.{Lexeme}
 use Rattle.lara_syntax.specs.declared.item.Lexeme.TheVariants as lex
+use Rattle.lara_syntax.specs.declared.item.Keyword.{Keyword}
 use Rattle.lara_syntax.specs.declared.item.Keyword.TheVariants as key
 use Rattle.lara_syntax.specs.declared.item.Sign.{Sign}
 use Rattle.lara_syntax.specs.declared.item.Sign.TheVariants.{Is, Semi, Comma, Colon, OpenBracket, CloseBracket, OpenBrace, CloseBrace, Open, Close}
@@ -25,18 +26,19 @@ use Rattle.lara_syntax.specs.declared.ast.AstEntry.{AstEntry}
 use Rattle.lara_syntax.specs.declared.ast.AstNode.{AstNode}
 use Rattle.lara_syntax.specs.declared.ast.AstOp.{AstOp}
 use Rattle.lara_syntax.specs.declared.ast.AstOp.TheVariants as op
+use Rattle.lara_syntax.specs.declared.ast_part.AstPair.{AstPair}
 use Rattle.lara_syntax.specs.declared.ast.AstStatement.{AstStatement}
 use Rattle.lara_syntax.specs.Limits.{Limits, none_counted, one_operator, together}
 use Rattle.lara_syntax.specs.declared.count.Count.{Count}
 use Rattle.lara_syntax.specs.Steps.{Items, Read, Reader, ◌>>=◌, give, refuse, peek, skip, items_from, head_word}
 use Rattle.lara_syntax.specs.Reading as r
-use Rattle.lara_syntax.proofs.WordTextLaws.{same_sign-refl}
+use Rattle.lara_syntax.proofs.WordTextLaws.{same_keyword-refl, same_sign-refl}
 use Rattle.lara_syntax.specs.Places.{node}
 use Rattle.lara_syntax.specs.Reading.{sign, sign_by, next_as, taken_as, comma_by, Counted}
-use Rattle.lara_syntax.specs.Grammar.{Word, word, Mark, Named, literal_word, Lit, key_type_word, KeyTyped, val_type_word, ValTyped, Many, none, more, CommaThen, comma_then, Commas, commas, Maybe, nothing, just, KeyCol, key_col, ValCol, val_col, TypeOf, columns, Entry, entry, SemiEntry, semi_entry, SomeSemi, no_semi, semi, Entries, entries, Leaf, named, load, literal, Operand, leaf, inside, Table, join, union, agg, operand, SomeOrder, no_order, order, Statement, assign, print, Script}
+use Rattle.lara_syntax.specs.Grammar.{Word, word, Mark, Key, Named, literal_word, Lit, key_type_word, KeyTyped, val_type_word, ValTyped, Many, none, more, CommaThen, comma_then, Commas, commas, Maybe, nothing, just, KeyCol, key_col, ValCol, val_col, TypeOf, columns, Entry, entry, SemiEntry, semi_entry, SomeSemi, no_semi, semi, Entries, entries, Pair, pair, Leaf, named, load, literal, Operand, leaf, inside, Table, join, union, agg, rename, operand, SomeOrder, no_order, order, Statement, assign, print, Script}
 use Rattle.lara_syntax.proofs.Levels.{inside_rest}
 use Rattle.lara_syntax.proofs.Turns.{TakesOne, read_of, items-some, items-none}
-use Rattle.lara_syntax.proofs.RuleReaders.{comma_name-one, comma_key_col-one, comma_val_col-one, comma_lit-one, semi_entry-one, has_room, next_behind, tree_given, statements-some, statements-none}
+use Rattle.lara_syntax.proofs.RuleReaders.{comma_name-one, comma_key_col-one, comma_val_col-one, comma_lit-one, semi_entry-one, comma_pair-one, has_room, next_behind, tree_given, statements-some, statements-none}
 
 -- ---- one word
 
@@ -57,6 +59,10 @@ chosen by ts w y e h = ap (λ (o : Option Lexeme). by o ts) e ∙ h
 pub sign_reads : (m : Sign) (at : ℕ) (ts us : Items) → Mark m at ts us → sign m ts ≡ read_of at us
 unfolding sign
 sign_reads m at ts us h = chosen (sign_by m) ts (Some (lex.Sign m)) (read_of at us) (head_is _ at ts us h) (ap (λ (b : Bool). cond b skip (refuse Unexpected) ts) (same_sign-refl m) ∙ skip_is _ at ts us h)
+
+pub keyword_reads : (k : Keyword) (at : ℕ) (ts us : Items) → Key k at ts us → r.keyword k ts ≡ read_of at us
+unfolding r.keyword
+keyword_reads k at ts us h = chosen (r.keyword_by k) ts (Some (lex.Key k)) (read_of at us) (head_is _ at ts us h) (ap (λ (b : Bool). cond b skip (refuse Unexpected) ts) (same_keyword-refl k) ∙ skip_is _ at ts us h)
 
 pub name_reads : (x : AstName) (ts us : Items) → Named x ts us → r.name ts ≡ read_of x us
 unfolding r.name
@@ -279,7 +285,31 @@ unfolding r.some_entries r.entry_here
 some_entries_reads es ts rest (nothing q) after = step r.entry_here r.entries_from q None q (read_of [] q) (chosen r.entry_here_by q (Some (lex.Sign CloseBrace)) (read_of None q) after refl) refl
 some_entries_reads es ts rest (just fs a c h) after = entries_reads fs a c h after
 
+-- ---- pairs
+
+pair_reads : Reads Pair r.pair
+unfolding r.pair
+pair_reads x ts us (pair at n m a b d e h k l) = rw (name_reads n a b h, keyword_reads key.To at b d k, name_reads m d e l) refl
+
+pairs_reads : (xs : List AstPair) (ts rest : Items) → Commas Pair xs ts rest → NoComma (head_word rest) → r.pairs ts ≡ read_of xs rest
+unfolding r.pairs r.comma_pair
+pairs_reads xs ts rest h after = commas_reads Pair r.pair pair_reads comma_pair-one xs ts rest h after
+
 -- ---- tables
+
+-- what may stand behind a table
+abbrev pub AfterTable : Option Lexeme → Type 0
+AfterTable (Some (lex.Sign Semi)) = Unit {0}
+AfterTable (Some (lex.Sign Close)) = Unit {0}
+AfterTable w = ⊥
+
+pub table_names : (w : Option Lexeme) → AfterTable w → AfterNames w
+table_names (Some (lex.Sign Semi)) a = tt
+table_names (Some (lex.Sign Close)) a = tt
+table_names w a = absurd a
+
+pub table_comma : (w : Option Lexeme) → AfterTable w → NoComma w
+table_comma w a = names_comma w (table_names w a)
 
 leaf_reads : (x : AstNode) (ts us : Items) → Leaf x ts us → r.leaf ts ≡ read_of x us
 unfolding r.leaf
@@ -302,10 +332,6 @@ operand_chosen : {A : Type 0} (by : Option Lexeme → Reader A) (d : ℕ) (n : C
 operand_chosen by d n x ts us (leaf e y a b h) z f g k l = leaf_chosen by y a b h z f g k
 operand_chosen by d n x ts us (inside e m a b y t1 t2 t3 t4 h1 h2 h3) z f g k l = chosen by t1 (Some (lex.Sign Open)) z (head_is _ a t1 t2 h1) l
 
-by_word_reads : (at : ℕ) (ts us : Items) → Word (lex.Key key.By) at ts us → r.by_word ts ≡ read_of at us
-unfolding r.by_word
-by_word_reads at ts us h = chosen r.by_word_by ts (Some (lex.Key key.By)) (read_of at us) (head_is _ at ts us h) (skip_is _ at ts us h)
-
 room_for : (m n : ℕ) → m < n → nat_lt m n ≡ true
 room_for m n h = lt-ltb m n h
 
@@ -321,11 +347,18 @@ two_goes what o k i j at a b ts us vs h g =
     step (o (one_operator k)) (λ x. o x.1 >>= λ y. give (node at (what x.0 y.0), y.1)) ts (a, i) us (read_of (node at (what a b), j) vs) h
     (step (o i) (λ y. give (node at (what a y.0), y.1)) us (b, j) vs (read_of (node at (what a b), j) vs) g refl)
 
-agg_goes : (o : Count → Reader Counted) (k j : Count) (at by : ℕ) (a : AstNode) (ns : List AstName) (ts us vs rest : Items) → o (one_operator k) ts ≡ read_of (a, j) us → r.by_word us ≡ read_of by vs → r.some_names vs ≡ read_of ns rest → r.agg_by o k at ts ≡ read_of (node at (op.Agg a ns), j) rest
-agg_goes o k j at by a ns ts us vs rest h g l =
-    step (o (one_operator k)) (λ x. r.by_word >>= λ b. r.some_names >>= λ ms. give (node at (op.Agg x.0 ms), x.1)) ts (a, j) us (read_of (node at (op.Agg a ns), j) rest) h
-    (step r.by_word (λ b. r.some_names >>= λ ms. give (node at (op.Agg a ms), j)) us by vs (read_of (node at (op.Agg a ns), j) rest) g
-    (step r.some_names (λ ms. give (node at (op.Agg a ms), j)) vs ns rest (read_of (node at (op.Agg a ns), j) rest) l refl))
+-- an operator with one operand
+one_reads : (limit k : Count) (w : Keyword) (rest : ℕ → Counted → Reader Counted) (o : Count → Reader Counted) (at : ℕ) (a : Counted) (t1 t2 t3 : Items) (y : Read Counted) → Word (lex.Key w) at t1 t2 → k.operators < limit.operators → o (one_operator k) t2 ≡ read_of a t3 → rest at a t3 ≡ y
+    → r.table_by limit o k (Some (lex.Key w)) t1 ≡ (r.operator_word limit k >>= r.one_by rest o k) t1 → (peek >>= r.table_by limit o k) t1 ≡ y
+one_reads limit k w rest o at a t1 t2 t3 y h lt read g by =
+    chosen (r.table_by limit o k) t1 (Some (lex.Key w)) y (head_is _ at t1 t2 h)
+    (by ∙ operator_goes limit k _ at t1 t2 h lt (r.one_by rest o k) y (step (o (one_operator k)) (rest at) t2 a t3 y read g))
+
+agg_rest_reads : (at by : ℕ) (a : Counted) (ns : List AstName) (us vs rest : Items) → Word (lex.Key key.By) by us vs → Maybe (Commas Named) ns vs rest → AfterNames (head_word rest) → r.agg_rest at a us ≡ read_of (node at (op.Agg a.0 ns), a.1) rest
+agg_rest_reads at by a ns us vs rest h k after = rw (keyword_reads key.By by us vs h, some_names_reads ns vs rest k after) refl
+
+rename_rest_reads : (at : ℕ) (a : Counted) (ps : List AstPair) (us rest : Items) → Commas Pair ps us rest → NoComma (head_word rest) → r.rename_rest at a us ≡ read_of (node at (op.Rename a.0 ps), a.1) rest
+rename_rest_reads at a ps us rest h after = rw (pairs_reads ps us rest h after) refl
 
 same_count : (a b : Count) → a.operators ≡ b.operators → a ≡ b
 same_count a b e = ap count_of e
@@ -345,10 +378,10 @@ mutual
   operand_reads limit d n x ts us (inside e m a b y t1 t2 t3 t4 h1 h2 h3) k j total le =
       chosen (r.operand_by (r.inside limit (suc e)) k) t1 (Some (lex.Sign Open)) (read_of (y, j) t4) (head_is _ a t1 t2 h1)
       (step skip (inside_rest limit e k) t1 a t2 (read_of (y, j) t4) (skip_is _ a t1 t2 h1)
-      (step (r.table limit e k) (λ z. sign Close >>= λ end. give z) t2 (y, j) t3 (read_of (y, j) t4) (table_reads limit e m y t2 t3 h2 k j total le (subst AfterNames (sym (head_is _ b t3 t4 h3)) tt))
+      (step (r.table limit e k) (λ z. sign Close >>= λ end. give z) t2 (y, j) t3 (read_of (y, j) t4) (table_reads limit e m y t2 t3 h2 k j total le (subst AfterTable (sym (head_is _ b t3 t4 h3)) tt))
       (step (sign Close) (λ end. give (y, j)) t3 b t4 (read_of (y, j) t4) (sign_reads Close b t3 t4 h3) refl)))
 
-  table_reads : (limit : Count) (d : ℕ) (n : Count) (x : AstNode) (ts us : Items) → Table d n x ts us → (k j : Count) → j.operators ≡ k.operators + n.operators → j.operators ≤ limit.operators → AfterNames (head_word us) → r.table limit d k ts ≡ read_of (x, j) us
+  table_reads : (limit : Count) (d : ℕ) (n : Count) (x : AstNode) (ts us : Items) → Table d n x ts us → (k j : Count) → j.operators ≡ k.operators + n.operators → j.operators ≤ limit.operators → AfterTable (head_word us) → r.table limit d k ts ≡ read_of (x, j) us
   table_reads limit d n x ts us (join e l m at a b t1 t2 t3 t4 h1 h2 h3) k j total le after =
       chosen (r.table_by limit (r.operand limit e) k) t1 (Some (lex.Key key.Join)) (read_of _ t4) (head_is _ at t1 t2 h1)
       (operator_goes limit k _ at t1 t2 h1 (omega (arith, total, le)) (r.two_by op.Join (r.operand limit e) k) (read_of _ t4)
@@ -358,9 +391,11 @@ mutual
       (operator_goes limit k _ at t1 t2 h1 (omega (arith, total, le)) (r.two_by op.Union (r.operand limit e) k) (read_of _ t4)
       (two_goes op.Union (r.operand limit e) k (together (one_operator k) l) j at a b t2 t3 t4 (operand_reads limit e l a t2 t3 h2 (one_operator k) (together (one_operator k) l) refl (omega (arith, total, le))) (operand_reads limit e m b t3 t4 h3 (together (one_operator k) l) j (omega (arith, total)) le)))
   table_reads limit d n x ts us (agg e m at by a ns t1 t2 t3 t4 t5 h1 h2 h3 h4) k j total le after =
-      chosen (r.table_by limit (r.operand limit e) k) t1 (Some (lex.Key key.Agg)) (read_of _ t5) (head_is _ at t1 t2 h1)
-      (operator_goes limit k _ at t1 t2 h1 (omega (arith, total, le)) (r.agg_by (r.operand limit e) k) (read_of _ t5)
-      (agg_goes (r.operand limit e) k j at by a ns t2 t3 t4 t5 (operand_reads limit e m a t2 t3 h2 (one_operator k) j (omega (arith, total)) le) (by_word_reads by t3 t4 h3) (some_names_reads ns t4 t5 h4 after)))
+      one_reads limit k key.Agg r.agg_rest (r.operand limit e) at (a, j) t1 t2 t3 (read_of _ t5) h1 (omega (arith, total, le)) (operand_reads limit e m a t2 t3 h2 (one_operator k) j (omega (arith, total)) le)
+      (agg_rest_reads at by (a, j) ns t3 t4 t5 h3 h4 (table_names (head_word t5) after)) refl
+  table_reads limit d n x ts us (rename e m at a ps t1 t2 t3 t4 h1 h2 h3) k j total le after =
+      one_reads limit k key.Rename r.rename_rest (r.operand limit e) at (a, j) t1 t2 t3 (read_of _ t4) h1 (omega (arith, total, le)) (operand_reads limit e m a t2 t3 h2 (one_operator k) j (omega (arith, total)) le)
+      (rename_rest_reads at (a, j) ps t3 t4 h3 (table_comma (head_word t4) after)) refl
   table_reads limit d n x ts us (operand e m y a b h) k j total le after =
       let read = operand_reads limit e m y a b h k j total le in
       operand_chosen (r.table_by limit (r.operand limit e) k) e m y a b h (read_of (y, j) b) (λ q. read) read read read
@@ -377,7 +412,7 @@ pub statement_reads : (limits : Limits) (x : AstStatement) (ts us : Items) → S
 unfolding r.statement
 statement_reads limits x ts us (assign a b m n t t1 t2 t3 t4 t5 h1 h2 h3 le h4) =
     chosen (r.statement_by limits) t1 (Some (lex.Name n.name)) (read_of _ t5) (head_is _ n.at t1 t2 h1)
-    (rw (name_reads n t1 t2 h1, sign_reads Is a t2 t3 h2, table_reads limits.counted limits.levels m t t3 t4 h3 none_counted m (omega arith) le (subst AfterNames (sym (head_is _ b t4 t5 h4)) tt), sign_reads Semi b t4 t5 h4) refl)
+    (rw (name_reads n t1 t2 h1, sign_reads Is a t2 t3 h2, table_reads limits.counted limits.levels m t t3 t4 h3 none_counted m (omega arith) le (subst AfterTable (sym (head_is _ b t4 t5 h4)) tt), sign_reads Semi b t4 t5 h4) refl)
 statement_reads limits x ts us (print at b n by t1 t2 t3 t4 t5 h1 h2 h3 h4) =
     chosen (r.statement_by limits) t1 (Some (lex.Key key.Print)) (read_of _ t5) (head_is _ at t1 t2 h1)
     (rw (skip_is _ at t1 t2 h1, name_reads n t2 t3 h2, some_order_reads by t3 t4 h3 (head_is _ b t4 t5 h4), sign_reads Semi b t4 t5 h4) refl)

@@ -2,6 +2,7 @@
 use Rattle.std.proofs.Common.{◌≡◌, ◌<◌, ℕ, zero, suc, List, [], ◌∷◌, ◌++◌, length, Option, Some, None, Ok, Err, inl, inr, refl, sym, ap, ◌∙◌, arith, Bool, true, false, cond}
 use Rattle.lara_syntax.specs.declared.item.Lexeme.{Lexeme}
 use Rattle.lara_syntax.specs.declared.item.Lexeme.TheVariants as lex
+use Rattle.lara_syntax.specs.declared.item.Keyword.{Keyword}
 use Rattle.lara_syntax.specs.declared.item.Keyword.TheVariants as key
 use Rattle.lara_syntax.specs.declared.item.Sign.{Sign}
 use Rattle.lara_syntax.specs.declared.item.Sign.TheVariants.{Semi, Comma, Colon, OpenBracket, CloseBracket, OpenBrace, CloseBrace}
@@ -11,11 +12,11 @@ use Rattle.lara_syntax.specs.declared.fault.Fault.TheVariants as faults
 use Rattle.lara_syntax.specs.declared.ast.AstEntry.{AstEntry}
 use Rattle.lara_syntax.specs.Steps.{Items, Read, Reader, ◌>>=◌, give, refuse, peek, skip, items_from, head_word}
 use Rattle.lara_syntax.specs.Reading as r
-use Rattle.lara_syntax.specs.FixedWords.{same_sign}
+use Rattle.lara_syntax.specs.FixedWords.{same_keyword, same_sign}
 use Rattle.lara_syntax.specs.Reading.{sign, sign_by}
 use Rattle.lara_syntax.proofs.Turns.{TakesOne, erred, list-some, list-none, list-fail}
 use Rattle.lara_syntax.proofs.Readers.{bind_err, ok_err, stop_is}
-use Rattle.lara_syntax.proofs.RuleReaders.{comma_name-one, comma_key_col-one, comma_val_col-one, comma_lit-one, semi_entry-one, print_rest}
+use Rattle.lara_syntax.proofs.RuleReaders.{comma_name-one, comma_key_col-one, comma_val_col-one, comma_lit-one, semi_entry-one, comma_pair-one, print_rest}
 
 abbrev pub Plain : {A : Type 0} → Reader A → Type 0
 Plain {A = A} p = (ts : Items) (d : Stop) → p ts ≡ erred d → d.kind ≡ Unexpected
@@ -66,6 +67,14 @@ sign_by-plain m w = plain_refuse
 pub sign-plain : (m : Sign) → Plain (sign m)
 unfolding sign
 sign-plain m = plain_choice (sign_by m) (sign_by-plain m)
+
+keyword_by-plain : (k : Keyword) (w : Option Lexeme) → Plain (r.keyword_by k w)
+keyword_by-plain k (Some (lex.Key j)) = plain_cond (same_keyword k j) skip (refuse Unexpected) plain_skip plain_refuse
+keyword_by-plain k w = plain_refuse
+
+pub keyword-plain : (k : Keyword) → Plain (r.keyword k)
+unfolding r.keyword
+keyword-plain k = plain_choice (r.keyword_by k) (keyword_by-plain k)
 
 name_by-plain : (w : Option Lexeme) → Plain (r.name_by w)
 name_by-plain (Some (lex.Name n)) = plain_bind skip _ plain_skip (λ at. plain_give _)
@@ -184,13 +193,13 @@ pub leaf-plain : Plain r.leaf
 unfolding r.leaf
 leaf-plain = plain_choice r.leaf_by leaf_by-plain
 
-by_word_by-plain : (w : Option Lexeme) → Plain (r.by_word_by w)
-by_word_by-plain (Some (lex.Key key.By)) = plain_skip
-by_word_by-plain w = plain_refuse
+pair-plain : Plain r.pair
+unfolding r.pair
+pair-plain = plain_bind r.name _ name-plain (λ x. plain_bind (r.keyword key.To) _ (keyword-plain key.To) (λ at. plain_bind r.name _ name-plain (λ y. plain_give _)))
 
-pub by_word-plain : Plain r.by_word
-unfolding r.by_word
-by_word-plain = plain_choice r.by_word_by by_word_by-plain
+pub pairs-plain : Plain r.pairs
+unfolding r.pairs r.comma_pair
+pairs-plain = commas-plain r.pair pair-plain comma_pair-one
 
 some_order_by-plain : (w : Option Lexeme) → Plain (r.some_order_by w)
 some_order_by-plain (Some (lex.Key key.By)) = plain_bind skip _ plain_skip (λ at. plain_bind r.some_names _ some_names-plain (λ ns. plain_give _))

@@ -2,6 +2,7 @@
 use Rattle.std.proofs.Common.{◌≡◌, ℕ, zero, suc, ◌<◌, List, [], ◌∷◌, ◌++◌, length, Option, Some, None, Ok, ap, arith, Bool, true, false, cond, nat_lt}
 use Rattle.lara_syntax.specs.declared.item.Lexeme.{Lexeme}
 use Rattle.lara_syntax.specs.declared.item.Lexeme.TheVariants as lex
+use Rattle.lara_syntax.specs.declared.item.Keyword.{Keyword}
 use Rattle.lara_syntax.specs.declared.item.Keyword.TheVariants as key
 use Rattle.lara_syntax.specs.declared.item.Sign.{Sign}
 use Rattle.lara_syntax.specs.declared.item.Sign.TheVariants.{Is, Semi, Comma, Colon, OpenBracket, CloseBracket, OpenBrace, CloseBrace, Open, Close}
@@ -19,7 +20,7 @@ use Rattle.std.proofs.lemmas.List.{length-append}
 use Rattle.lara_syntax.specs.Limits.{Limits, none_counted, one_operator}
 use Rattle.lara_syntax.specs.declared.count.Count.{Count}
 use Rattle.lara_syntax.specs.Steps.{Items, Reader, ◌>>=◌, give, refuse, peek, skip, items_from, head_word, Fails}
-use Rattle.lara_syntax.specs.Reading.{sign, sign_by, name, name_by, key_type, key_type_by, val_type, val_type_by, word_key_type, word_val_type, next_as, taken_as, without_place, literal_of, is_literal, lit, lit_at, lit_by, comma_by, comma_then, comma_name, some_names, some_names_by, key_col, comma_key_col, some_key_cols, some_key_cols_by, val_col, comma_val_col, val_cols, table_type, comma_lit, lits, some_lits, some_lits_by, entry, an_entry, entry_here, entry_here_by, semi_entry, semi_entry_by, entries_from, some_entries, leaf, leaf_by, Counted, operand_by, operand_with, by_word, by_word_by, operator_word, two_by, agg_by, table_by, table_with, inside, operand, table, some_order, some_order_by, statement, statement_by, no_room, next_by, next_statement, statements, tree_of, script}
+use Rattle.lara_syntax.specs.Reading.{sign, sign_by, keyword, keyword_by, name, name_by, key_type, key_type_by, val_type, val_type_by, word_key_type, word_val_type, next_as, taken_as, without_place, literal_of, is_literal, lit, lit_at, lit_by, comma_by, comma_then, comma_name, some_names, some_names_by, key_col, comma_key_col, some_key_cols, some_key_cols_by, val_col, comma_val_col, val_cols, table_type, comma_lit, lits, some_lits, some_lits_by, entry, an_entry, entry_here, entry_here_by, semi_entry, semi_entry_by, entries_from, some_entries, leaf, leaf_by, Counted, operand_by, operand_with, pair, comma_pair, pairs, operator_word, two_by, one_by, agg_rest, rename_rest, table_by, table_with, inside, operand, table, some_order, some_order_by, statement, statement_by, no_room, next_by, next_statement, statements, tree_of, script}
 use Rattle.lara_syntax.proofs.Levels.{inside_rest}
 use Rattle.lara_syntax.proofs.Turns.{TakesOne, read_of, err_ok, none_some, rest_is, list-some, list-none, list-fail}
 use Rattle.lara_syntax.proofs.Readers.{IsReader, reads_bind, reads_give, reads_refuse, reads_peek, reads_skip, reads_items, reads_list, skip_shortens, bind_ok}
@@ -37,6 +38,14 @@ sign_by-reads m w = reads_refuse Unexpected
 pub sign-reads : (m : Sign) → IsReader (sign m)
 unfolding sign
 sign-reads m = reads_bind peek (sign_by m) reads_peek (sign_by-reads m)
+
+keyword_by-reads : (k : Keyword) (w : Option Lexeme) → IsReader (keyword_by k w)
+keyword_by-reads k (Some (lex.Key j)) = reads_cond _ _ _ reads_skip (reads_refuse Unexpected)
+keyword_by-reads k w = reads_refuse Unexpected
+
+pub keyword-reads : (k : Keyword) → IsReader (keyword k)
+unfolding keyword
+keyword-reads k = reads_bind peek (keyword_by k) reads_peek (keyword_by-reads k)
 
 name_by-reads : (w : Option Lexeme) → IsReader (name_by w)
 name_by-reads (Some (lex.Name n)) = reads_bind _ _ reads_skip (λ at. reads_give _)
@@ -198,7 +207,25 @@ pub some_entries-reads : IsReader some_entries
 unfolding some_entries
 some_entries-reads = reads_bind entry_here entries_from entry_here-reads entries_from-reads
 
-pub ruleset short_laws = (comma_name-one, comma_key_col-one, comma_val_col-one, comma_lit-one, semi_entry-one)
+-- ---- pairs
+
+pub pair-reads : IsReader pair
+unfolding pair
+pair-reads = reads_bind _ _ name-reads (λ x. reads_bind _ _ (keyword-reads key.To) (λ at. reads_bind _ _ name-reads (λ y. reads_give _)))
+
+pub comma_pair-reads : IsReader comma_pair
+unfolding comma_pair
+comma_pair-reads = comma-reads pair pair-reads
+
+pub comma_pair-one : TakesOne comma_pair
+unfolding comma_pair
+comma_pair-one = comma-one pair pair-reads
+
+pub pairs-reads : IsReader pairs
+unfolding pairs
+pairs-reads = reads_bind pair (λ x. items_from comma_pair (x ∷ [])) pair-reads (λ x. reads_items comma_pair comma_pair-one comma_pair-reads (x ∷ []))
+
+pub ruleset short_laws = (comma_name-one, comma_key_col-one, comma_val_col-one, comma_lit-one, semi_entry-one, comma_pair-one)
 
 -- ---- tables
 
@@ -230,14 +257,6 @@ operand_by-reads i ii taken w = counted-reads taken
 operand_with-reads : (i : Count → Reader Counted) → AreReaders i → AreReaders (operand_with i)
 operand_with-reads i ii taken = reads_bind peek (operand_by i taken) reads_peek (operand_by-reads i ii taken)
 
-by_word_by-reads : (w : Option Lexeme) → IsReader (by_word_by w)
-by_word_by-reads (Some (lex.Key key.By)) = reads_skip
-by_word_by-reads w = reads_refuse Unexpected
-
-pub by_word-reads : IsReader by_word
-unfolding by_word
-by_word-reads = reads_bind peek by_word_by reads_peek by_word_by-reads
-
 pub operator_word-reads : (limit taken : Count) → IsReader (operator_word limit taken)
 unfolding operator_word
 operator_word-reads limit taken = reads_cond (nat_lt taken.operators limit.operators) skip (refuse TooMany) reads_skip (reads_refuse TooMany)
@@ -245,13 +264,28 @@ operator_word-reads limit taken = reads_cond (nat_lt taken.operators limit.opera
 pub two_by-reads : (what : AstNode → AstNode → AstOp) (o : Count → Reader Counted) → AreReaders o → (taken : Count) (at : ℕ) → IsReader (two_by what o taken at)
 two_by-reads what o io taken at = reads_bind (o (one_operator taken)) _ (io (one_operator taken)) (λ a. reads_bind (o a.1) _ (io a.1) (λ b. reads_give _))
 
-pub agg_by-reads : (o : Count → Reader Counted) → AreReaders o → (taken : Count) (at : ℕ) → IsReader (agg_by o taken at)
-agg_by-reads o io taken at = reads_bind (o (one_operator taken)) _ (io (one_operator taken)) (λ a. reads_bind by_word _ by_word-reads (λ by. reads_bind some_names _ some_names-reads (λ ns. reads_give _)))
+-- what is behind the operand of an operator is a reader
+abbrev pub RestReads : (ℕ → Counted → Reader Counted) → Type 0
+RestReads rest = (at : ℕ) (a : Counted) → IsReader (rest at a)
+
+pub one_by-reads : (rest : ℕ → Counted → Reader Counted) → RestReads rest → (o : Count → Reader Counted) → AreReaders o → (taken : Count) (at : ℕ) → IsReader (one_by rest o taken at)
+one_by-reads rest ir o io taken at = reads_bind (o (one_operator taken)) (rest at) (io (one_operator taken)) (ir at)
+
+pub agg_rest-reads : RestReads agg_rest
+agg_rest-reads at a = reads_bind (keyword key.By) _ (keyword-reads key.By) (λ by. reads_bind some_names _ some_names-reads (λ ns. reads_give _))
+
+pub rename_rest-reads : RestReads rename_rest
+rename_rest-reads at a = reads_bind pairs _ pairs-reads (λ ps. reads_give _)
+
+-- an operator word, and what is behind it
+pub operator-reads : (limit taken : Count) (f : ℕ → Reader Counted) → ((at : ℕ) → IsReader (f at)) → IsReader (operator_word limit taken >>= f)
+operator-reads limit taken f ir = reads_bind (operator_word limit taken) f (operator_word-reads limit taken) ir
 
 table_by-reads : (limit : Count) (o : Count → Reader Counted) → AreReaders o → (taken : Count) (w : Option Lexeme) → IsReader (table_by limit o taken w)
-table_by-reads limit o io taken (Some (lex.Key key.Join)) = reads_bind (operator_word limit taken) (two_by op.Join o taken) (operator_word-reads limit taken) (two_by-reads op.Join o io taken)
-table_by-reads limit o io taken (Some (lex.Key key.Union)) = reads_bind (operator_word limit taken) (two_by op.Union o taken) (operator_word-reads limit taken) (two_by-reads op.Union o io taken)
-table_by-reads limit o io taken (Some (lex.Key key.Agg)) = reads_bind (operator_word limit taken) (agg_by o taken) (operator_word-reads limit taken) (agg_by-reads o io taken)
+table_by-reads limit o io taken (Some (lex.Key key.Join)) = operator-reads limit taken (two_by op.Join o taken) (two_by-reads op.Join o io taken)
+table_by-reads limit o io taken (Some (lex.Key key.Union)) = operator-reads limit taken (two_by op.Union o taken) (two_by-reads op.Union o io taken)
+table_by-reads limit o io taken (Some (lex.Key key.Agg)) = operator-reads limit taken (one_by agg_rest o taken) (one_by-reads agg_rest agg_rest-reads o io taken)
+table_by-reads limit o io taken (Some (lex.Key key.Rename)) = operator-reads limit taken (one_by rename_rest o taken) (one_by-reads rename_rest rename_rest-reads o io taken)
 table_by-reads limit o io taken w = io taken
 
 table_with-reads : (limit : Count) (o : Count → Reader Counted) → AreReaders o → AreReaders (table_with limit o)

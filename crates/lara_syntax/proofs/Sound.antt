@@ -24,12 +24,12 @@ use Rattle.lara_syntax.specs.Steps.{Items, Reader, ◌>>=◌, give, refuse, skip
 use Rattle.lara_syntax.specs.Reading as r
 use Rattle.lara_syntax.specs.Places.{first_at, node}
 use Rattle.lara_syntax.specs.Reading.{sign, Counted}
-use Rattle.lara_syntax.specs.Grammar.{Word, Mark, Named, Lit, Many, Commas, commas, Maybe, nothing, just, KeyCol, key_col, ValCol, val_col, TypeOf, columns, Entry, entry, SemiEntry, semi_entry, SomeSemi, no_semi, semi, Entries, entries, Leaf, named, load, literal, Operand, leaf, inside, Table, join, union, agg, operand, SomeOrder, no_order, order, Statement, assign, print}
+use Rattle.lara_syntax.specs.Grammar.{Word, Mark, Named, Lit, Many, Commas, commas, Maybe, nothing, just, KeyCol, key_col, ValCol, val_col, TypeOf, columns, Entry, entry, SemiEntry, semi_entry, SomeSemi, no_semi, semi, Entries, entries, Pair, pair, Leaf, named, load, literal, Operand, leaf, inside, Table, join, union, agg, rename, operand, SomeOrder, no_order, order, Statement, assign, print}
 use Rattle.lara_syntax.proofs.Levels.{inside_rest}
 use Rattle.lara_syntax.proofs.Turns.{read_of, rest_is, err_ok, none_some}
-use Rattle.lara_syntax.proofs.RuleReaders.{comma_name-one, comma_key_col-one, comma_val_col-one, comma_lit-one, semi_entry-one, assign_rest, print_rest, has_room, next_behind, next_behind-one}
+use Rattle.lara_syntax.proofs.RuleReaders.{comma_name-one, comma_key_col-one, comma_val_col-one, comma_lit-one, semi_entry-one, comma_pair-one, assign_rest, print_rest, has_room, next_behind, next_behind-one}
 use Rattle.lara_syntax.proofs.Readers.{bind_ok}
-use Rattle.lara_syntax.proofs.SoundWords.{give_to, read_some, some_none, word_taken, sign_sound, Sound, name_sound, lit_sound, key_type_sound, val_type_sound, listed, commas_sound, absent}
+use Rattle.lara_syntax.proofs.SoundWords.{give_to, read_some, some_none, word_taken, sign_sound, keyword_sound, Sound, name_sound, lit_sound, key_type_sound, val_type_sound, listed, commas_sound, absent}
 
 -- ---- names
 
@@ -167,6 +167,20 @@ some_entries_sound : Sound (Maybe Entries) r.some_entries
 unfolding r.some_entries
 some_entries_sound ts es u e = let h = bind_ok (r.entry_here ts) r.entries_from (es, u) e in entries_when h.0 ts h.1 es u h.2 h.3
 
+-- ---- pairs
+
+pair_sound : Sound Pair r.pair
+unfolding r.pair
+pair_sound ts x u e =
+    let a = bind_ok (r.name ts) (λ n. r.keyword key.To >>= λ at. r.name >>= λ m. give (record { old = n; new = m })) (x, u) e in
+    let b = bind_ok (r.keyword key.To a.1) (λ at. r.name >>= λ m. give (record { old = a.0; new = m })) (x, u) a.3 in
+    let c = bind_ok (r.name b.1) (λ m. give (record { old = a.0; new = m })) (x, u) b.3 in
+    give_to (λ y q. Pair y ts q) (record { old = a.0; new = c.0 }) c.1 x u c.3 (pair b.0 a.0 c.0 ts a.1 b.1 c.1 (name_sound ts a.0 a.1 a.2) (keyword_sound key.To a.1 b.0 b.1 b.2) (name_sound b.1 c.0 c.1 c.2))
+
+pairs_sound : Sound (Commas Pair) r.pairs
+unfolding r.pairs r.comma_pair
+pairs_sound ts xs u e = commas_sound Pair r.pair pair_sound comma_pair-one ts xs u e
+
 -- ---- tables
 
 leaf_when : (o : Option Lexeme) (ts : Items) (x : AstNode) (u : Items) → head_word ts ≡ o → r.leaf_by o ts ≡ read_of x u → Leaf x ts u
@@ -214,14 +228,6 @@ operand_from : (limit : Count) (d : ℕ) → InsideSound limit d → CountSound 
 unfolding r.operand
 operand_from limit d is taken le ts x u e = operand_when limit d is taken le (head_word ts) ts x u refl e
 
-by_word_when : (o : Option Lexeme) (ts : Items) (at : ℕ) (u : Items) → head_word ts ≡ o → r.by_word_by o ts ≡ read_of at u → Word (lex.Key key.By) at ts u
-by_word_when (Some (lex.Key key.By)) ts at u h e = word_taken (lex.Key key.By) ts at u h e
-by_word_when w ts at u h e = absurd (err_ok {A = ℕ} _ (at, u) e)
-
-by_word_sound : (ts : Items) (at : ℕ) (u : Items) → r.by_word ts ≡ read_of at u → Word (lex.Key key.By) at ts u
-unfolding r.by_word
-by_word_sound ts at u e = by_word_when (head_word ts) ts at u refl e
-
 operator_when : (b : Bool) (ts : Items) (at : ℕ) (u : Items) → cond b skip (refuse TooMany) ts ≡ read_of at u → (b ≡ true) × (skip ts ≡ read_of at u)
 operator_when true ts at u e = (refl, e)
 operator_when false ts at u e = absurd (err_ok {A = ℕ} _ (at, u) e)
@@ -250,20 +256,30 @@ two_sound limit d what k make os taken ts x u h e =
     give_to (λ y q. Counts (Table d) limit taken y ts q) (node at (what a.0 b.0), b.1) g.1 x u g.3
     (record { n = one_operator (together first.n second.n); total = omega (arith, first.total, second.total); within = second.within; stands = make first.n second.n at a.0 b.0 ts w.1 f.1 g.1 word.1 first.stands second.stands })
 
-agg_sound : (limit : Count) (d : ℕ) → CountSound (Operand d) limit (r.operand limit d) → (taken : Count) (ts : Items) (x : Counted) (u : Items) → head_word ts ≡ Some (lex.Key key.Agg)
-    → (r.operator_word limit taken >>= r.agg_by (r.operand limit d) taken) ts ≡ read_of x u → Counts (Table d) limit taken x ts u
-agg_sound limit d os taken ts x u h e =
-    let o = r.operand limit d in
-    let w = bind_ok (r.operator_word limit taken ts) (r.agg_by o taken) (x, u) e in
-    let at = w.0 in
-    let word = operator_sound limit taken (lex.Key key.Agg) ts at w.1 h w.2 in
-    let f = bind_ok (o (one_operator taken) w.1) (λ y. r.by_word >>= λ by. r.some_names >>= λ ns. give (node at (op.Agg y.0 ns), y.1)) (x, u) w.3 in
-    let a = f.0 in
-    let first = os (one_operator taken) (omega (arith, word.0)) w.1 a f.1 f.2 in
-    let g = bind_ok (r.by_word f.1) (λ by. r.some_names >>= λ ns. give (node at (op.Agg a.0 ns), a.1)) (x, u) f.3 in
+-- what is read behind the operand of the operator k makes a table of it
+abbrev MakesOne : Count → ℕ → Keyword → (ℕ → Counted → Reader Counted) → Type 0
+MakesOne limit d k rest = (taken : Count) (at : ℕ) (a : Counted) (t1 t2 t3 : Items) → Word (lex.Key k) at t1 t2 → Counts (Operand d) limit (one_operator taken) a t2 t3 → (x : Counted) (u : Items) → rest at a t3 ≡ read_of x u → Counts (Table d) limit taken x t1 u
+
+one_sound : (limit : Count) (d : ℕ) (k : Keyword) (rest : ℕ → Counted → Reader Counted) → MakesOne limit d k rest → CountSound (Operand d) limit (r.operand limit d) → (taken : Count) (ts : Items) (x : Counted) (u : Items) → head_word ts ≡ Some (lex.Key k)
+    → (r.operator_word limit taken >>= r.one_by rest (r.operand limit d) taken) ts ≡ read_of x u → Counts (Table d) limit taken x ts u
+one_sound limit d k rest makes os taken ts x u h e =
+    let w = bind_ok (r.operator_word limit taken ts) (r.one_by rest (r.operand limit d) taken) (x, u) e in
+    let word = operator_sound limit taken (lex.Key k) ts w.0 w.1 h w.2 in
+    let f = bind_ok (r.operand limit d (one_operator taken) w.1) (rest w.0) (x, u) w.3 in
+    makes taken w.0 f.0 ts w.1 f.1 word.1 (os (one_operator taken) (omega (arith, word.0)) w.1 f.0 f.1 f.2) x u f.3
+
+agg_makes : (limit : Count) (d : ℕ) → MakesOne limit d key.Agg r.agg_rest
+agg_makes limit d taken at a t1 t2 t3 w first x u e =
+    let g = bind_ok (r.keyword key.By t3) (λ by. r.some_names >>= λ ns. give (node at (op.Agg a.0 ns), a.1)) (x, u) e in
     let l = bind_ok (r.some_names g.1) (λ ns. give (node at (op.Agg a.0 ns), a.1)) (x, u) g.3 in
-    give_to (λ y q. Counts (Table d) limit taken y ts q) (node at (op.Agg a.0 l.0), a.1) l.1 x u l.3
-    (record { n = one_operator first.n; total = omega (arith, first.total); within = first.within; stands = agg d first.n at g.0 a.0 l.0 ts w.1 f.1 g.1 l.1 word.1 first.stands (by_word_sound f.1 g.0 g.1 g.2) (some_names_sound g.1 l.0 l.1 l.2) })
+    give_to (λ y q. Counts (Table d) limit taken y t1 q) (node at (op.Agg a.0 l.0), a.1) l.1 x u l.3
+    (record { n = one_operator first.n; total = omega (arith, first.total); within = first.within; stands = agg d first.n at g.0 a.0 l.0 t1 t2 t3 g.1 l.1 w first.stands (keyword_sound key.By t3 g.0 g.1 g.2) (some_names_sound g.1 l.0 l.1 l.2) })
+
+rename_makes : (limit : Count) (d : ℕ) → MakesOne limit d key.Rename r.rename_rest
+rename_makes limit d taken at a t1 t2 t3 w first x u e =
+    let g = bind_ok (r.pairs t3) (λ ps. give (node at (op.Rename a.0 ps), a.1)) (x, u) e in
+    give_to (λ y q. Counts (Table d) limit taken y t1 q) (node at (op.Rename a.0 g.0), a.1) g.1 x u g.3
+    (record { n = one_operator first.n; total = omega (arith, first.total); within = first.within; stands = rename d first.n at a.0 g.0 t1 t2 t3 g.1 w first.stands (pairs_sound t3 g.0 g.1 g.2) })
 
 lone_sound : (limit : Count) (d : ℕ) → CountSound (Operand d) limit (r.operand limit d) → CountSound (Table d) limit (r.operand limit d)
 lone_sound limit d os taken le ts x u e = let a = os taken le ts x u e in record { n = a.n; total = a.total; within = a.within; stands = operand d a.n x.0 ts u a.stands }
@@ -271,7 +287,8 @@ lone_sound limit d os taken le ts x u e = let a = os taken le ts x u e in record
 table_when : (limit : Count) (d : ℕ) → CountSound (Operand d) limit (r.operand limit d) → (taken : Count) → taken.operators ≤ limit.operators → (o : Option Lexeme) (ts : Items) (x : Counted) (u : Items) → head_word ts ≡ o → r.table_by limit (r.operand limit d) taken o ts ≡ read_of x u → Counts (Table d) limit taken x ts u
 table_when limit d os taken le (Some (lex.Key key.Join)) ts x u h e = two_sound limit d op.Join key.Join (join d) os taken ts x u h e
 table_when limit d os taken le (Some (lex.Key key.Union)) ts x u h e = two_sound limit d op.Union key.Union (union d) os taken ts x u h e
-table_when limit d os taken le (Some (lex.Key key.Agg)) ts x u h e = agg_sound limit d os taken ts x u h e
+table_when limit d os taken le (Some (lex.Key key.Agg)) ts x u h e = one_sound limit d key.Agg r.agg_rest (agg_makes limit d) os taken ts x u h e
+table_when limit d os taken le (Some (lex.Key key.Rename)) ts x u h e = one_sound limit d key.Rename r.rename_rest (rename_makes limit d) os taken ts x u h e
 table_when limit d os taken le w ts x u h e = lone_sound limit d os taken le ts x u e
 
 table_from : (limit : Count) (d : ℕ) → InsideSound limit d → CountSound (Table d) limit (r.table limit d)

@@ -7,6 +7,7 @@ use Rattle.lara_semiring.specs.declared.value.ValType.{ValType}
 use Rattle.lara_semiring.specs.declared.value.ValType.TheVariants as val_type_of
 use Rattle.lara_syntax.specs.declared.item.Lexeme.{Lexeme}
 use Rattle.lara_syntax.specs.declared.item.Lexeme.TheVariants as lex
+use Rattle.lara_syntax.specs.declared.item.Keyword.{Keyword}
 use Rattle.lara_syntax.specs.declared.item.Keyword.TheVariants as key
 use Rattle.lara_syntax.specs.declared.item.Sign.{Sign}
 use Rattle.lara_syntax.specs.declared.item.Sign.TheVariants.{Comma}
@@ -18,11 +19,11 @@ use Rattle.lara_syntax.specs.declared.ast.AstValue.TheVariants as val
 use Rattle.lara_syntax.specs.Steps.{Items, Read, Reader, onward, ◌>>=◌, give, refuse, skip, turns, turns_within, turn, behind, list_from, items_from, head_word}
 use Rattle.lara_syntax.specs.Reading as r
 use Rattle.lara_syntax.specs.Reading.{sign, sign_by, next_as, taken_as, comma_by}
-use Rattle.lara_syntax.specs.Grammar.{Word, word, Mark, Named, literal_word, Lit, key_type_word, KeyTyped, val_type_word, ValTyped, Many, none, more, CommaThen, comma_then, Commas, commas, Maybe, nothing}
+use Rattle.lara_syntax.specs.Grammar.{Word, word, Mark, Key, Named, literal_word, Lit, key_type_word, KeyTyped, val_type_word, ValTyped, Many, none, more, CommaThen, comma_then, Commas, commas, Maybe, nothing}
 use Rattle.lara_syntax.proofs.Turns.{TakesOne, read_of, pair_is, value_is, rest_is, err_ok, none_some, list_step}
 use Rattle.lara_syntax.proofs.Readers.{bind_ok}
-use Rattle.lara_syntax.specs.FixedWords.{same_sign}
-use Rattle.lara_syntax.proofs.WordTextLaws.{same_sign-is}
+use Rattle.lara_syntax.specs.FixedWords.{same_keyword, same_sign}
+use Rattle.lara_syntax.proofs.WordTextLaws.{same_keyword-is, same_sign-is}
 
 -- ---- how a read ends
 
@@ -66,6 +67,16 @@ sign_when m w ts x u h e = absurd (err_ok {A = ℕ} _ (x, u) e)
 pub sign_sound : (m : Sign) (ts : Items) (x : ℕ) (u : Items) → sign m ts ≡ read_of x u → Mark m x ts u
 unfolding sign
 sign_sound m ts x u e = sign_when m (head_word ts) ts x u refl e
+
+keyword_when : (k : Keyword) (o : Option Lexeme) (ts : Items) (x : ℕ) (u : Items) → head_word ts ≡ o → r.keyword_by k o ts ≡ read_of x u → Key k x ts u
+keyword_when k (Some (lex.Key j)) ts x u h e =
+    let t = tested (same_keyword k j) ts x u e in
+    word_taken (lex.Key k) ts x u (h ∙ ap (λ (i : Keyword). Some (lex.Key i)) (same_keyword-is k j t.0)) t.1
+keyword_when k w ts x u h e = absurd (err_ok {A = ℕ} _ (x, u) e)
+
+pub keyword_sound : (k : Keyword) (ts : Items) (x : ℕ) (u : Items) → r.keyword k ts ≡ read_of x u → Key k x ts u
+unfolding r.keyword
+keyword_sound k ts x u e = keyword_when k (head_word ts) ts x u refl e
 
 abbrev pub Sound : {A : Type 0} → (A → Items → Items → Type 0) → Reader A → Type 0
 Sound {A = A} X p = (ts : Items) (x : A) (u : Items) → p ts ≡ read_of x u → X x ts u

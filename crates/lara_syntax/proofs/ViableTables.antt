@@ -18,11 +18,11 @@ use Rattle.lara_syntax.specs.Places.{node}
 use Rattle.lara_syntax.specs.Reading.{sign}
 use Rattle.lara_syntax.proofs.Turns.{TakesOne, read_of, rest_is, none_some}
 use Rattle.lara_syntax.proofs.Readers.{IsReader, reads_bind, reads_give, reads_items, skip_shortens}
-use Rattle.lara_syntax.proofs.RuleReaders.{sign-reads, name-reads, key_type-reads, val_type-reads, lit-reads, comma-reads, comma-one, key_col-reads, some_key_cols-reads, val_col-reads, val_cols-reads, table_type-reads, lits-reads, some_lits-reads, entry-reads, entry_here-reads, semi_entry-reads, semi_entry-one, entries_from-reads, some_entries-reads}
+use Rattle.lara_syntax.proofs.RuleReaders.{sign-reads, name-reads, keyword-reads, pair-reads, key_type-reads, val_type-reads, lit-reads, comma-reads, comma-one, key_col-reads, some_key_cols-reads, val_col-reads, val_cols-reads, table_type-reads, lits-reads, some_lits-reads, entry-reads, entry_here-reads, semi_entry-reads, semi_entry-one, entries_from-reads, some_entries-reads}
 use Rattle.lara_syntax.proofs.Complete.{NoComma, AfterNames, no_names_by, names_comma}
 use Rattle.lara_syntax.proofs.Viable.{IsViable, IsCase, Starts, case_viable, case_refuse, viable_bind, viable_give, viable_choice}
 use Rattle.lara_syntax.proofs.ViableLoop.{Keeps, IsItem, loop_starts, viable_list, keeps_viable, keeps_none, keeps_choice, viable_item}
-use Rattle.lara_syntax.proofs.ViableWords.{name_spelled, a_name, any, next_is, token, viable_behind, Takes, quiet_takes, refuse_takes, sign_takes, sign_viable, sign_starts, name_takes, name_viable, key_type_viable, val_type_viable, lit_takes, case_cond, keeps_cond, lit_viable, first_takes, second_takes, commas_viable, quiet_list, no_list, empty_list}
+use Rattle.lara_syntax.proofs.ViableWords.{name_spelled, a_name, any, next_is, token, keyword_viable, viable_behind, Takes, quiet_takes, refuse_takes, sign_takes, sign_viable, sign_starts, name_takes, name_viable, key_type_viable, val_type_viable, lit_takes, case_cond, keeps_cond, lit_viable, first_takes, second_takes, commas_viable, quiet_list, no_list, empty_list}
 
 -- ---- names
 
@@ -39,6 +39,19 @@ some_names_empty w u xs e = empty_list u xs e
 pub some_names_viable : IsViable AfterNames r.some_names
 unfolding r.some_names
 some_names_viable = viable_choice AfterNames r.some_names_by some_names_cases (quiet_list AfterNames r.some_names_by (λ u xs e. some_names_empty (head_word u) u xs e) (λ v after. no_names_by (head_word v) v after)) [] tt [] (λ v after. no_names_by (head_word v) v after)
+
+-- ---- pairs
+
+pair_viable : (F : Option Lexeme → Type 0) → IsViable F r.pair
+unfolding r.pair
+pair_viable F =
+    viable_bind F any r.name _ name-reads (λ x. reads_bind _ _ (keyword-reads key.To) (λ at. reads_bind _ _ name-reads (λ y. reads_give _))) (name_viable any)
+    (λ x. viable_bind F any (r.keyword key.To) _ (keyword-reads key.To) (λ at. reads_bind _ _ name-reads (λ y. reads_give _)) (keyword_viable any key.To)
+    (λ at. viable_bind F any r.name _ name-reads (λ y. reads_give _) (name_viable any) (λ y. viable_give F _) (λ y ts z v e a. tt)) (λ at ts y v e a. tt)) (λ x ts y v e a. tt)
+
+pub pairs_viable : (F : Option Lexeme → Type 0) → ((w : Option Lexeme) → F w → NoComma w) → IsViable F r.pairs
+unfolding r.pairs r.comma_pair
+pairs_viable F not_comma = commas_viable F not_comma r.pair pair-reads (pair_viable any)
 
 -- ---- columns
 

@@ -16,14 +16,14 @@ use Rattle.lara_syntax.specs.StartSymbols.{IsSpelled}
 use Rattle.lara_syntax.specs.FixedWords.{keyword_text, sign_text}
 use Rattle.lara_syntax.specs.Steps.{Items, Read, Reader, ◌>>=◌, give, refuse, peek, skip, items_from, head_word}
 use Rattle.lara_syntax.specs.Reading as r
-use Rattle.lara_syntax.specs.FixedWords.{same_sign}
+use Rattle.lara_syntax.specs.FixedWords.{same_keyword, same_sign}
 use Rattle.lara_syntax.specs.Reading.{sign, sign_by}
 use Rattle.lara_syntax.specs.Grammar.{Word, word}
 use Rattle.lara_syntax.proofs.Turns.{read_of, erred, value_is, err_ok}
 use Rattle.lara_syntax.proofs.Readers.{IsReader, reads_bind, reads_give, reads_skip, reads_items, skip_ok, ok_err, bind_ok, longer, skip_shortens}
 use Rattle.lara_syntax.proofs.RuleReaders.{comma-reads, comma-one}
-use Rattle.lara_syntax.proofs.Complete.{head_is, sign_reads, NoComma, no_comma}
-use Rattle.lara_syntax.proofs.SoundWords.{sign_sound, name_sound}
+use Rattle.lara_syntax.proofs.Complete.{head_is, sign_reads, keyword_reads, NoComma, no_comma}
+use Rattle.lara_syntax.proofs.SoundWords.{sign_sound, keyword_sound, name_sound}
 use Rattle.lara_syntax.proofs.Viable.{Goes, IsViable, IsCase, Quiet, Starts, case_viable, case_refuse, viable_bind, viable_give, viable_choice}
 use Rattle.lara_syntax.proofs.ViableLoop.{Keeps, IsItem, viable_list, keeps_viable, keeps_none, keeps_choice, viable_item}
 
@@ -91,6 +91,13 @@ Takes {A = A} p = (ts : Items) (x : A) (u : Items) → p ts ≡ read_of x u → 
 pub quiet_takes : {A : Type 0} (F : Option Lexeme → Type 0) (p : Reader A) → Takes p → Quiet F p
 quiet_takes F p takes u v x e after = absurd (omega (arith, takes u x u e))
 
+pub skip_takes : Takes skip
+skip_takes ts x u e = skip_shortens (λ at. give at) (λ at. reads_give at) ts x u (taken ts x u e)
+  where
+    taken : (ts : Items) (x : ℕ) (u : Items) → skip ts ≡ read_of x u → (skip >>= λ at. give at) ts ≡ read_of x u
+    taken [] x u e = e
+    taken (t ∷ ts) x u e = e
+
 pub refuse_takes : {A : Type 0} (ts : Items) (x : A) (u : Items) → (let r : Read A = Err (record { left = length ts; kind = Unexpected }) in r) ≡ read_of x u → length u < length ts
 refuse_takes {A = A} ts x u e = absurd (err_ok {A = A} _ (x, u) e)
 
@@ -119,6 +126,17 @@ sign_viable F m = viable_choice F (sign_by m) (sign_cases F m) (quiet_takes F (s
 -- what begins with the sign m
 pub sign_starts : {B : Type 0} (F : Option Lexeme → Type 0) (m : Sign) (f : ℕ → Reader B) → Starts F (next_is m) (sign m >>= f)
 sign_starts F m f ts y v e after = let a = bind_ok (sign m ts) f (y, v) e in head_is (lex.Sign m) a.0 ts a.1 (sign_sound m ts a.0 a.1 a.2)
+
+keyword_cases : (F : Option Lexeme → Type 0) (k : Keyword) (w : Option Lexeme) → IsCase F (r.keyword_by k w)
+keyword_cases F k (Some (lex.Key j)) = case_cond F (same_keyword k j) skip (refuse Unexpected) (case_viable F skip (viable_skip F)) (case_refuse F Unexpected)
+keyword_cases F k w = case_refuse F Unexpected
+
+pub keyword_takes : (k : Keyword) → Takes (r.keyword k)
+keyword_takes k ts x u e = word_shorter (lex.Key k) x ts u (keyword_sound k ts x u e)
+
+pub keyword_viable : (F : Option Lexeme → Type 0) (k : Keyword) → IsViable F (r.keyword k)
+unfolding r.keyword
+keyword_viable F k = viable_choice F (r.keyword_by k) (keyword_cases F k) (quiet_takes F (r.keyword k) (keyword_takes k)) (token (lex.Key k) ∷ []) (key_spelled k, tt) 0 (λ v after. keyword_reads k 0 (token (lex.Key k) ∷ v) v (word 0 0 v))
 
 pub name_cases : (F : Option Lexeme → Type 0) (w : Option Lexeme) → IsCase F (r.name_by w)
 name_cases F (Some (lex.Name n)) = case_viable F _ (viable_behind F (λ at. give (record { name = n; at = at })) (λ at. reads_give _) (λ at. viable_give F _))

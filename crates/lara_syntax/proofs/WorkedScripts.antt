@@ -60,8 +60,18 @@ summed_join : parsed (codes "A=agg(join load B C)by;") ≡ Ok (record {
     op = op.Agg (record { at = 6; op = op.Join (record { at = 11; op = op.Load (named 16 66) }) (record { at = 18; op = op.Named (named 18 67) }) }) [];
   }) ∷ [];
 })
-unfolding parsed items_of stop_of scanned stop_at gather gather_within item_here word_at name_word number_word sign_word one_sign sign_of keyword_of Rattle.lara_base.specs.Names.starts_name Rattle.lara_base.specs.Names.goes_on Rattle.lara_base.specs.Names.is_name Rattle.lara_base.specs.Names.is_keyword turns turns_within r.script r.statements r.next_statement r.statement r.name r.sign r.table r.operand r.inside r.leaf r.operator_word r.by_word r.some_names r.comma_name
+unfolding parsed items_of stop_of scanned stop_at gather gather_within item_here word_at name_word number_word sign_word one_sign sign_of keyword_of Rattle.lara_base.specs.Names.starts_name Rattle.lara_base.specs.Names.goes_on Rattle.lara_base.specs.Names.is_name Rattle.lara_base.specs.Names.is_keyword turns turns_within r.script r.statements r.next_statement r.statement r.name r.sign r.table r.operand r.inside r.leaf r.operator_word r.keyword r.some_names r.comma_name
 summed_join = refl
+
+-- the pairs of a rename, of which the first follows the operand at once
+renamed : parsed (codes "B=rename A a to b,c to d;") ≡ Ok (record {
+  statements = st.Assign 0 (named 0 66) (record {
+    at = 2;
+    op = op.Rename (record { at = 9; op = op.Named (named 9 65) }) (record { old = named 11 97; new = named 16 98 } ∷ record { old = named 18 99; new = named 23 100 } ∷ []);
+  }) ∷ [];
+})
+unfolding parsed items_of stop_of scanned stop_at gather gather_within item_here word_at name_word number_word sign_word one_sign sign_of keyword_of Rattle.lara_base.specs.Names.starts_name Rattle.lara_base.specs.Names.goes_on Rattle.lara_base.specs.Names.is_name Rattle.lara_base.specs.Names.is_keyword turns turns_within r.script r.statements r.next_statement r.statement r.name r.sign r.table r.operand r.inside r.leaf r.operator_word r.keyword r.pairs r.pair r.comma_pair
+renamed = refl
 
 -- the end of a statement comes too early: its place is the length of the script
 cut_short : parsed (codes "A=B") ≡ Err (record { at = 3; kind = Unexpected })

@@ -23,6 +23,7 @@ use Rattle.lara_syntax.specs.declared.ast.AstValue.TheVariants as val
 use Rattle.lara_syntax.specs.declared.ast.AstEntry.{AstEntry}
 use Rattle.lara_syntax.specs.declared.ast.AstNode.{AstNode}
 use Rattle.lara_syntax.specs.declared.ast.AstOp.TheVariants as op
+use Rattle.lara_syntax.specs.declared.ast_part.AstPair.{AstPair}
 use Rattle.lara_syntax.specs.declared.ast.AstStatement.{AstStatement}
 use Rattle.lara_syntax.specs.declared.ast.AstStatement.TheVariants as st
 use Rattle.lara_syntax.specs.Limits.{Limits, none_counted, one_operator, together, IsWithin}
@@ -144,6 +145,14 @@ pub data SomeSemi : Items → Items → Type 0 where
 pub data Entries : List AstEntry → Items → Items → Type 0 where
   entries : (e : AstEntry) (es : List AstEntry) (ts us vs rest : Items) → Entry e ts us → Many SemiEntry es us vs → SomeSemi vs rest → Entries (e ∷ es) ts rest
 
+-- ---- pairs of names
+
+-- pair = NAME "to" NAME
+pub data Pair : AstPair → Items → Items → Type 0 where
+  pair : (at : ℕ) (x y : AstName) (ts us vs rest : Items)
+      → Named x ts us → Key key.To at us vs → Named y vs rest
+      → Pair (record { old = x; new = y }) ts rest
+
 -- ---- tables
 
 -- a table that stands on no other: leaf = NAME | "load" NAME | "table" type "{" [ entries ] "}"
@@ -163,7 +172,7 @@ mutual
         → Mark Open a t1 t2 → Table d n x t2 t3 → Mark Close b t3 rest
         → Operand (suc d) n x t1 rest
 
-  -- table = "join" operand operand | "union" operand operand | "agg" operand "by" [ names ] | operand
+  -- table = "join" operand operand | "union" operand operand | "agg" operand "by" [ names ] | "rename" operand pair { "," pair } | operand
   pub data Table : ℕ → Count → AstNode → Items → Items → Type 0 where
     join : (d : ℕ) (m n : Count) (at : ℕ) (x y : AstNode) (t1 t2 t3 rest : Items)
         → Key key.Join at t1 t2 → Operand d m x t2 t3 → Operand d n y t3 rest
@@ -174,6 +183,9 @@ mutual
     agg : (d : ℕ) (n : Count) (at by : ℕ) (x : AstNode) (ns : List AstName) (t1 t2 t3 t4 rest : Items)
         → Key key.Agg at t1 t2 → Operand d n x t2 t3 → Key key.By by t3 t4 → Maybe (Commas Named) ns t4 rest
         → Table d (one_operator n) (node at (op.Agg x ns)) t1 rest
+    rename : (d : ℕ) (n : Count) (at : ℕ) (x : AstNode) (ps : List AstPair) (t1 t2 t3 rest : Items)
+        → Key key.Rename at t1 t2 → Operand d n x t2 t3 → Commas Pair ps t3 rest
+        → Table d (one_operator n) (node at (op.Rename x ps)) t1 rest
     operand : (d : ℕ) (n : Count) (x : AstNode) (ts rest : Items) → Operand d n x ts rest → Table d n x ts rest
 
 -- ---- statements

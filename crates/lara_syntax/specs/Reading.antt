@@ -6,6 +6,7 @@ use Rattle.lara_semiring.specs.declared.value.ValType.{ValType}
 use Rattle.lara_semiring.specs.declared.value.ValType.TheVariants as val_type_of
 use Rattle.lara_syntax.specs.declared.item.Lexeme.{Lexeme}
 use Rattle.lara_syntax.specs.declared.item.Lexeme.TheVariants as lex
+use Rattle.lara_syntax.specs.declared.item.Keyword.{Keyword}
 use Rattle.lara_syntax.specs.declared.item.Keyword.TheVariants as key
 use Rattle.lara_syntax.specs.declared.item.Sign.{Sign}
 use Rattle.lara_syntax.specs.declared.item.Sign.TheVariants.{Is, Semi, Comma, Colon, OpenBracket, CloseBracket, OpenBrace, CloseBrace, Open, Close}
@@ -25,9 +26,10 @@ use Rattle.lara_syntax.specs.declared.ast.AstEntry.{AstEntry}
 use Rattle.lara_syntax.specs.declared.ast.AstNode.{AstNode}
 use Rattle.lara_syntax.specs.declared.ast.AstOp.{AstOp}
 use Rattle.lara_syntax.specs.declared.ast.AstOp.TheVariants as op
+use Rattle.lara_syntax.specs.declared.ast_part.AstPair.{AstPair}
 use Rattle.lara_syntax.specs.declared.ast.AstStatement.{AstStatement}
 use Rattle.lara_syntax.specs.declared.ast.AstStatement.TheVariants as st
-use Rattle.lara_syntax.specs.FixedWords.{same_sign}
+use Rattle.lara_syntax.specs.FixedWords.{same_keyword, same_sign}
 use Rattle.lara_syntax.specs.Limits.{Limits, none_counted, one_operator}
 use Rattle.lara_syntax.specs.Places.{node, first_at}
 use Rattle.lara_syntax.specs.Steps.{Reader, ◌>>=◌, give, refuse, peek, skip, items_from, list_from}
@@ -42,6 +44,15 @@ sign_by m w = refuse Unexpected
 -- the sign m, which gives its place
 unfoldable pub sign : Sign → Reader ℕ
 sign m = peek >>= sign_by m
+
+-- a keyword, by the word that is next
+abbrev pub keyword_by : Keyword → Option Lexeme → Reader ℕ
+keyword_by k (Some (lex.Key j)) = if same_keyword k j then skip else refuse Unexpected
+keyword_by k w = refuse Unexpected
+
+-- the keyword k, which gives its place
+unfoldable pub keyword : Keyword → Reader ℕ
+keyword k = peek >>= keyword_by k
 
 -- NAME, by the word that is next
 abbrev pub name_by : Option Lexeme → Reader AstName
@@ -319,16 +330,28 @@ operand_by inside taken w = do
 abbrev pub operand_with : (Count → Reader Counted) → Count → Reader Counted
 operand_with inside taken = peek >>= operand_by inside taken
 
--- ---- table = "join" operand operand | "union" operand operand | "agg" operand "by" [ names ] | operand
+-- ---- pairs of names: pair = NAME "to" NAME
 
--- "by", by the word that is next
-abbrev pub by_word_by : Option Lexeme → Reader ℕ
-by_word_by (Some (lex.Key key.By)) = skip
-by_word_by w = refuse Unexpected
+-- pair = NAME "to" NAME
+unfoldable pub pair : Reader AstPair
+pair = do
+  x ← name
+  at ← keyword key.To
+  y ← name
+  give (record { old = x; new = y })
 
--- "by"
-unfoldable pub by_word : Reader ℕ
-by_word = peek >>= by_word_by
+-- [ "," pair ]
+unfoldable pub comma_pair : Reader (Option AstPair)
+comma_pair = comma_then pair
+
+-- pair { "," pair }
+unfoldable pub pairs : Reader (List AstPair)
+pairs = do
+  x ← pair
+  items_from comma_pair (x ∷ [])
+
+-- ---- table = "join" operand operand | "union" operand operand | "agg" operand "by" [ names ]
+-- ----       | "rename" operand pair { "," pair } | operand
 
 -- an operator word behind so many others of its statement
 unfoldable pub operator_word : Count → Count → Reader ℕ
@@ -349,26 +372,42 @@ join_with limit operand taken = operator_word limit taken >>= two_by op.Join ope
 abbrev pub union_with : Count → (Count → Reader Counted) → Count → Reader Counted
 union_with limit operand taken = operator_word limit taken >>= two_by op.Union operand taken
 
--- an operand and names behind an operator word
-abbrev pub agg_by : (Count → Reader Counted) → Count → ℕ → Reader Counted
-agg_by operand taken at = do
+-- an operand behind an operator word at a place, and the rest behind the operand
+abbrev pub one_by : (ℕ → Counted → Reader Counted) → (Count → Reader Counted) → Count → ℕ → Reader Counted
+one_by rest operand taken at = do
   a ← operand (one_operator taken)
-  by ← by_word
+  rest at a
+
+-- "by" [ names ], behind the operand of an agg
+abbrev pub agg_rest : ℕ → Counted → Reader Counted
+agg_rest at a = do
+  by ← keyword key.By
   ns ← some_names
   give (node at (op.Agg a.0 ns), a.1)
 
 -- "agg" operand "by" [ names ], likewise
 abbrev pub agg_with : Count → (Count → Reader Counted) → Count → Reader Counted
-agg_with limit operand taken = operator_word limit taken >>= agg_by operand taken
+agg_with limit operand taken = operator_word limit taken >>= one_by agg_rest operand taken
+
+-- pair { "," pair }, behind the operand of a rename
+abbrev pub rename_rest : ℕ → Counted → Reader Counted
+rename_rest at a = do
+  ps ← pairs
+  give (node at (op.Rename a.0 ps), a.1)
+
+-- "rename" operand pair { "," pair }, likewise
+abbrev pub rename_with : Count → (Count → Reader Counted) → Count → Reader Counted
+rename_with limit operand taken = operator_word limit taken >>= one_by rename_rest operand taken
 
 -- table, by the word that is next
 abbrev pub table_by : Count → (Count → Reader Counted) → Count → Option Lexeme → Reader Counted
 table_by limit operand taken (Some (lex.Key key.Join)) = join_with limit operand taken
 table_by limit operand taken (Some (lex.Key key.Union)) = union_with limit operand taken
 table_by limit operand taken (Some (lex.Key key.Agg)) = agg_with limit operand taken
+table_by limit operand taken (Some (lex.Key key.Rename)) = rename_with limit operand taken
 table_by limit operand taken w = operand taken
 
--- table = "join" operand operand | "union" operand operand | "agg" operand "by" [ names ] | operand
+-- table, where so much was counted before
 abbrev pub table_with : Count → (Count → Reader Counted) → Count → Reader Counted
 table_with limit operand taken = peek >>= table_by limit operand taken
 

@@ -3,5 +3,6 @@ pub mod columns;
 pub mod entries;
 pub mod leaves;
 pub mod names;
+pub mod pairs;
 pub mod statements;
 pub mod tables;

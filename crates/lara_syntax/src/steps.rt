@@ -2,11 +2,11 @@
 ghost use Rattle.std.specs.Prelude.{◌≡◌, ◌∷◌, ◌+◌, ◌≤◌, ◌<◌, [], MatchOption, length, IfOk};
 ghost use Rattle.lara_syntax.specs.Returns.{Returns};
 ghost use Rattle.lara_syntax.specs.Steps.{Gives};
-ghost use Rattle.lara_syntax.specs.Reading.{sign, name};
+ghost use Rattle.lara_syntax.specs.Reading.{sign, keyword, name};
 
 use crate::ast::AstName;
 use crate::fault::{Fault, Stop};
-use crate::item::{Item, Lexeme, Sign};
+use crate::item::{Item, Keyword, Lexeme, Sign};
 use lara_base::Copied;
 use lara_data::Kind;
 use std::alloc::Global;
@@ -41,6 +41,26 @@ pub fn sign(items: &[Item], wanted: Sign) -> Result<(u32, &[Item]), Stop>
     };
     match &item.lexeme {
         Lexeme::Sign(k) => {
+            if wanted.same(*k) {
+                Ok((item.at, rest))
+            } else {
+                Err(stopped(items, Kind::Unexpected))
+            }
+        }
+        _ => Err(stopped(items, Kind::Unexpected)),
+    }
+}
+
+/// A keyword, at its place.
+#[tactic(auto, unfolding(crate::specs::Reading::keyword))]
+pub fn keyword(items: &[Item], wanted: Keyword) -> Result<(u32, &[Item]), Stop>
+    ensures { Returns (λ x. (x.0, x.1.now)) result (keyword wanted items.now) }
+{
+    let Some((item, rest)) = next(items) else {
+        return Err(stopped(items, Kind::Unexpected));
+    };
+    match &item.lexeme {
+        Lexeme::Key(k) => {
             if wanted.same(*k) {
                 Ok((item.at, rest))
             } else {
