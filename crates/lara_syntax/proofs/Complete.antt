@@ -28,7 +28,8 @@ use Rattle.lara_syntax.specs.declared.ast.AstOp.{AstOp}
 use Rattle.lara_syntax.specs.declared.ast.AstOp.TheVariants as op
 use Rattle.lara_syntax.specs.declared.ast_part.AstPair.{AstPair}
 use Rattle.lara_syntax.specs.declared.ast.AstStatement.{AstStatement}
-use Rattle.lara_syntax.specs.Limits.{Limits, none_counted, one_operator, together}
+use Rattle.lara_syntax.specs.Limits.{Limits, none_counted, one_operator, together, IsWithin}
+use Rattle.lara_syntax.proofs.Counts.{IsSum, sum_none}
 use Rattle.lara_syntax.specs.declared.count.Count.{Count}
 use Rattle.lara_syntax.specs.Steps.{Items, Read, Reader, ◌>>=◌, give, refuse, peek, skip, items_from, head_word}
 use Rattle.lara_syntax.specs.Reading as r
@@ -360,19 +361,13 @@ agg_rest_reads at by a ns us vs rest h k after = rw (keyword_reads key.By by us 
 rename_rest_reads : (at : ℕ) (a : Counted) (ps : List AstPair) (us rest : Items) → Commas Pair ps us rest → NoComma (head_word rest) → r.rename_rest at a us ≡ read_of (node at (op.Rename a.0 ps), a.1) rest
 rename_rest_reads at a ps us rest h after = rw (pairs_reads ps us rest h after) refl
 
-same_count : (a b : Count) → a.operators ≡ b.operators → a ≡ b
-same_count a b e = ap count_of e
-  where
-    count_of : ℕ → Count
-    count_of n = record { operators = n }
-
 -- where k was counted before, j is with what the table has
 mutual
   unfolding r.operand r.table r.inside
 
-  operand_reads : (limit : Count) (d : ℕ) (n : Count) (x : AstNode) (ts us : Items) → Operand d n x ts us → (k j : Count) → j.operators ≡ k.operators + n.operators → j.operators ≤ limit.operators → r.operand limit d k ts ≡ read_of (x, j) us
+  operand_reads : (limit : Count) (d : ℕ) (n : Count) (x : AstNode) (ts us : Items) → Operand d n x ts us → (k j : Count) → IsSum k n j → IsWithin j limit → r.operand limit d k ts ≡ read_of (x, j) us
   operand_reads limit d n x ts us (leaf e y a b h) k j total le =
-      let same : k ≡ j = same_count k j (omega (arith, total)) in
+      let same : k ≡ j = sum_none k j total in
       let read : (r.leaf >>= λ z. give (z, k)) a ≡ read_of (y, j) b = step r.leaf (λ z. give (z, k)) a y b (read_of (y, j) b) (leaf_reads y a b h) (ap (λ (q : Count). read_of (y, q) b) same) in
       leaf_chosen (r.operand_by (r.inside limit e) k) y a b h (read_of (y, j) b) (λ m. read) read read
   operand_reads limit d n x ts us (inside e m a b y t1 t2 t3 t4 h1 h2 h3) k j total le =
@@ -381,20 +376,20 @@ mutual
       (step (r.table limit e k) (λ z. sign Close >>= λ end. give z) t2 (y, j) t3 (read_of (y, j) t4) (table_reads limit e m y t2 t3 h2 k j total le (subst AfterTable (sym (head_is _ b t3 t4 h3)) tt))
       (step (sign Close) (λ end. give (y, j)) t3 b t4 (read_of (y, j) t4) (sign_reads Close b t3 t4 h3) refl)))
 
-  table_reads : (limit : Count) (d : ℕ) (n : Count) (x : AstNode) (ts us : Items) → Table d n x ts us → (k j : Count) → j.operators ≡ k.operators + n.operators → j.operators ≤ limit.operators → AfterTable (head_word us) → r.table limit d k ts ≡ read_of (x, j) us
+  table_reads : (limit : Count) (d : ℕ) (n : Count) (x : AstNode) (ts us : Items) → Table d n x ts us → (k j : Count) → IsSum k n j → IsWithin j limit → AfterTable (head_word us) → r.table limit d k ts ≡ read_of (x, j) us
   table_reads limit d n x ts us (join e l m at a b t1 t2 t3 t4 h1 h2 h3) k j total le after =
       chosen (r.table_by limit (r.operand limit e) k) t1 (Some (lex.Key key.Join)) (read_of _ t4) (head_is _ at t1 t2 h1)
-      (operator_goes limit k _ at t1 t2 h1 (omega (arith, total, le)) (r.two_by op.Join (r.operand limit e) k) (read_of _ t4)
-      (two_goes op.Join (r.operand limit e) k (together (one_operator k) l) j at a b t2 t3 t4 (operand_reads limit e l a t2 t3 h2 (one_operator k) (together (one_operator k) l) refl (omega (arith, total, le))) (operand_reads limit e m b t3 t4 h3 (together (one_operator k) l) j (omega (arith, total)) le)))
+      (operator_goes limit k _ at t1 t2 h1 (omega (arith, total.0, le.0)) (r.two_by op.Join (r.operand limit e) k) (read_of _ t4)
+      (two_goes op.Join (r.operand limit e) k (together (one_operator k) l) j at a b t2 t3 t4 (operand_reads limit e l a t2 t3 h2 (one_operator k) (together (one_operator k) l) (refl, refl) (omega (arith, total.0, le.0), omega (arith, total.1, le.1))) (operand_reads limit e m b t3 t4 h3 (together (one_operator k) l) j (omega (arith, total.0), omega (arith, total.1)) le)))
   table_reads limit d n x ts us (union e l m at a b t1 t2 t3 t4 h1 h2 h3) k j total le after =
       chosen (r.table_by limit (r.operand limit e) k) t1 (Some (lex.Key key.Union)) (read_of _ t4) (head_is _ at t1 t2 h1)
-      (operator_goes limit k _ at t1 t2 h1 (omega (arith, total, le)) (r.two_by op.Union (r.operand limit e) k) (read_of _ t4)
-      (two_goes op.Union (r.operand limit e) k (together (one_operator k) l) j at a b t2 t3 t4 (operand_reads limit e l a t2 t3 h2 (one_operator k) (together (one_operator k) l) refl (omega (arith, total, le))) (operand_reads limit e m b t3 t4 h3 (together (one_operator k) l) j (omega (arith, total)) le)))
+      (operator_goes limit k _ at t1 t2 h1 (omega (arith, total.0, le.0)) (r.two_by op.Union (r.operand limit e) k) (read_of _ t4)
+      (two_goes op.Union (r.operand limit e) k (together (one_operator k) l) j at a b t2 t3 t4 (operand_reads limit e l a t2 t3 h2 (one_operator k) (together (one_operator k) l) (refl, refl) (omega (arith, total.0, le.0), omega (arith, total.1, le.1))) (operand_reads limit e m b t3 t4 h3 (together (one_operator k) l) j (omega (arith, total.0), omega (arith, total.1)) le)))
   table_reads limit d n x ts us (agg e m at by a ns t1 t2 t3 t4 t5 h1 h2 h3 h4) k j total le after =
-      one_reads limit k key.Agg r.agg_rest (r.operand limit e) at (a, j) t1 t2 t3 (read_of _ t5) h1 (omega (arith, total, le)) (operand_reads limit e m a t2 t3 h2 (one_operator k) j (omega (arith, total)) le)
+      one_reads limit k key.Agg r.agg_rest (r.operand limit e) at (a, j) t1 t2 t3 (read_of _ t5) h1 (omega (arith, total.0, le.0)) (operand_reads limit e m a t2 t3 h2 (one_operator k) j (omega (arith, total.0), omega (arith, total.1)) le)
       (agg_rest_reads at by (a, j) ns t3 t4 t5 h3 h4 (table_names (head_word t5) after)) refl
   table_reads limit d n x ts us (rename e m at a ps t1 t2 t3 t4 h1 h2 h3) k j total le after =
-      one_reads limit k key.Rename r.rename_rest (r.operand limit e) at (a, j) t1 t2 t3 (read_of _ t4) h1 (omega (arith, total, le)) (operand_reads limit e m a t2 t3 h2 (one_operator k) j (omega (arith, total)) le)
+      one_reads limit k key.Rename r.rename_rest (r.operand limit e) at (a, j) t1 t2 t3 (read_of _ t4) h1 (omega (arith, total.0, le.0)) (operand_reads limit e m a t2 t3 h2 (one_operator k) j (omega (arith, total.0), omega (arith, total.1)) le)
       (rename_rest_reads at (a, j) ps t3 t4 h3 (table_comma (head_word t4) after)) refl
   table_reads limit d n x ts us (operand e m y a b h) k j total le after =
       let read = operand_reads limit e m y a b h k j total le in
@@ -412,7 +407,7 @@ pub statement_reads : (limits : Limits) (x : AstStatement) (ts us : Items) → S
 unfolding r.statement
 statement_reads limits x ts us (assign a b m n t t1 t2 t3 t4 t5 h1 h2 h3 le h4) =
     chosen (r.statement_by limits) t1 (Some (lex.Name n.name)) (read_of _ t5) (head_is _ n.at t1 t2 h1)
-    (rw (name_reads n t1 t2 h1, sign_reads Is a t2 t3 h2, table_reads limits.counted limits.levels m t t3 t4 h3 none_counted m (omega arith) le (subst AfterTable (sym (head_is _ b t4 t5 h4)) tt), sign_reads Semi b t4 t5 h4) refl)
+    (rw (name_reads n t1 t2 h1, sign_reads Is a t2 t3 h2, table_reads limits.counted limits.levels m t t3 t4 h3 none_counted m (omega arith, omega arith) le (subst AfterTable (sym (head_is _ b t4 t5 h4)) tt), sign_reads Semi b t4 t5 h4) refl)
 statement_reads limits x ts us (print at b n by t1 t2 t3 t4 t5 h1 h2 h3 h4) =
     chosen (r.statement_by limits) t1 (Some (lex.Key key.Print)) (read_of _ t5) (head_is _ at t1 t2 h1)
     (rw (skip_is _ at t1 t2 h1, name_reads n t2 t3 h2, some_order_reads by t3 t4 h3 (head_is _ b t4 t5 h4), sign_reads Semi b t4 t5 h4) refl)

@@ -1,5 +1,6 @@
 pub mod Blanks
 pub mod Complete
+pub mod Counts
 pub mod Gather
 pub mod ItemLaws
 pub mod Levels

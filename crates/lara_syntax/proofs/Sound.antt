@@ -1,5 +1,5 @@
 -- What is read is in the grammar: the rules.
-use Rattle.std.proofs.Common.{◌≡◌, ℕ, zero, suc, ◌<◌, ◌≤◌, ◌+◌, Bool, true, false, nat_lt, cond, List, [], ◌∷◌, length, Option, Some, None, Ok, refl, sym, subst, ◌∙◌, arith}
+use Rattle.std.proofs.Common.{◌≡◌, ℕ, zero, suc, ◌<◌, Bool, true, false, nat_lt, cond, List, [], ◌∷◌, length, Option, Some, None, Ok, refl, sym, subst, ◌∙◌, arith}
 use Rattle.std.proofs.lemmas.Bool.{ltb-true}
 use Rattle.lara_data.specs.declared.refusal.Kind.TheVariants.{TooMany}
 use Rattle.lara_syntax.specs.declared.item.Lexeme.{Lexeme}
@@ -18,7 +18,8 @@ use Rattle.lara_syntax.specs.declared.ast.AstOp.{AstOp}
 use Rattle.lara_syntax.specs.declared.ast.AstOp.TheVariants as op
 use Rattle.lara_syntax.specs.declared.ast.AstStatement.{AstStatement}
 use Rattle.lara_syntax.specs.declared.ast.AstStatement.TheVariants as st
-use Rattle.lara_syntax.specs.Limits.{Limits, none_counted, one_operator, together}
+use Rattle.lara_syntax.specs.Limits.{Limits, none_counted, one_operator, together, IsWithin}
+use Rattle.lara_syntax.proofs.Counts.{IsSum}
 use Rattle.lara_syntax.specs.declared.count.Count.{Count}
 use Rattle.lara_syntax.specs.Steps.{Items, Reader, ◌>>=◌, give, refuse, skip, head_word}
 use Rattle.lara_syntax.specs.Reading as r
@@ -208,21 +209,21 @@ leaf_sound ts x u e = leaf_when (head_word ts) ts x u refl e
 -- a table with its operator words, which are in the count
 pub record Counts (X : Count → AstNode → Items → Items → Type 0) (limit taken : Count) (x : Counted) (ts u : Items) : Type 0 where
   pub n : Count
-  pub total : x.1.operators ≡ taken.operators + n.operators
-  pub within : x.1.operators ≤ limit.operators
+  pub total : IsSum taken n x.1
+  pub within : IsWithin x.1 limit
   pub stands : X n x.0 ts u
 
 abbrev pub CountSound : (Count → AstNode → Items → Items → Type 0) → Count → (Count → Reader Counted) → Type 0
-CountSound X limit p = (taken : Count) → taken.operators ≤ limit.operators → (ts : Items) (x : Counted) (u : Items) → p taken ts ≡ read_of x u → Counts X limit taken x ts u
+CountSound X limit p = (taken : Count) → IsWithin taken limit → (ts : Items) (x : Counted) (u : Items) → p taken ts ≡ read_of x u → Counts X limit taken x ts u
 
 abbrev InsideSound : Count → ℕ → Type 0
-InsideSound limit d = (taken : Count) → taken.operators ≤ limit.operators → (ts : Items) (x : Counted) (u : Items) → head_word ts ≡ Some (lex.Sign Open) → r.inside limit d taken ts ≡ read_of x u → Counts (Operand d) limit taken x ts u
+InsideSound limit d = (taken : Count) → IsWithin taken limit → (ts : Items) (x : Counted) (u : Items) → head_word ts ≡ Some (lex.Sign Open) → r.inside limit d taken ts ≡ read_of x u → Counts (Operand d) limit taken x ts u
 
-operand_when : (limit : Count) (d : ℕ) → InsideSound limit d → (taken : Count) → taken.operators ≤ limit.operators → (o : Option Lexeme) (ts : Items) (x : Counted) (u : Items) → head_word ts ≡ o → r.operand_by (r.inside limit d) taken o ts ≡ read_of x u → Counts (Operand d) limit taken x ts u
+operand_when : (limit : Count) (d : ℕ) → InsideSound limit d → (taken : Count) → IsWithin taken limit → (o : Option Lexeme) (ts : Items) (x : Counted) (u : Items) → head_word ts ≡ o → r.operand_by (r.inside limit d) taken o ts ≡ read_of x u → Counts (Operand d) limit taken x ts u
 operand_when limit d is taken le (Some (lex.Sign Open)) ts x u h e = is taken le ts x u h e
 operand_when limit d is taken le w ts x u h e =
     let a = bind_ok (r.leaf ts) (λ y. give (y, taken)) (x, u) e in
-    give_to (λ z q. Counts (Operand d) limit taken z ts q) (a.0, taken) a.1 x u a.3 (record { n = none_counted; total = omega arith; within = le; stands = leaf d a.0 ts a.1 (leaf_sound ts a.0 a.1 a.2) })
+    give_to (λ z q. Counts (Operand d) limit taken z ts q) (a.0, taken) a.1 x u a.3 (record { n = none_counted; total = (omega arith, omega arith); within = le; stands = leaf d a.0 ts a.1 (leaf_sound ts a.0 a.1 a.2) })
 
 operand_from : (limit : Count) (d : ℕ) → InsideSound limit d → CountSound (Operand d) limit (r.operand limit d)
 unfolding r.operand
@@ -240,55 +241,55 @@ operator_sound limit taken w ts at u h e = let a = operator_when (nat_lt taken.o
 abbrev MakesTwo : ℕ → (AstNode → AstNode → AstOp) → Keyword → Type 0
 MakesTwo d what k = (m n : Count) (at : ℕ) (x y : AstNode) (t1 t2 t3 rest : Items) → Word (lex.Key k) at t1 t2 → Operand d m x t2 t3 → Operand d n y t3 rest → Table d (one_operator (together m n)) (node at (what x y)) t1 rest
 
-two_sound : (limit : Count) (d : ℕ) (what : AstNode → AstNode → AstOp) (k : Keyword) → MakesTwo d what k → CountSound (Operand d) limit (r.operand limit d) → (taken : Count) (ts : Items) (x : Counted) (u : Items) → head_word ts ≡ Some (lex.Key k)
+two_sound : (limit : Count) (d : ℕ) (what : AstNode → AstNode → AstOp) (k : Keyword) → MakesTwo d what k → CountSound (Operand d) limit (r.operand limit d) → (taken : Count) → IsWithin taken limit → (ts : Items) (x : Counted) (u : Items) → head_word ts ≡ Some (lex.Key k)
     → (r.operator_word limit taken >>= r.two_by what (r.operand limit d) taken) ts ≡ read_of x u → Counts (Table d) limit taken x ts u
-two_sound limit d what k make os taken ts x u h e =
+two_sound limit d what k make os taken le ts x u h e =
     let o = r.operand limit d in
     let w = bind_ok (r.operator_word limit taken ts) (r.two_by what o taken) (x, u) e in
     let at = w.0 in
     let word = operator_sound limit taken (lex.Key k) ts at w.1 h w.2 in
     let f = bind_ok (o (one_operator taken) w.1) (λ y. o y.1 >>= λ z. give (node at (what y.0 z.0), z.1)) (x, u) w.3 in
     let a = f.0 in
-    let first = os (one_operator taken) (omega (arith, word.0)) w.1 a f.1 f.2 in
+    let first = os (one_operator taken) (omega (arith, word.0), le.1) w.1 a f.1 f.2 in
     let g = bind_ok (o a.1 f.1) (λ z. give (node at (what a.0 z.0), z.1)) (x, u) f.3 in
     let b = g.0 in
     let second = os a.1 first.within f.1 b g.1 g.2 in
     give_to (λ y q. Counts (Table d) limit taken y ts q) (node at (what a.0 b.0), b.1) g.1 x u g.3
-    (record { n = one_operator (together first.n second.n); total = omega (arith, first.total, second.total); within = second.within; stands = make first.n second.n at a.0 b.0 ts w.1 f.1 g.1 word.1 first.stands second.stands })
+    (record { n = one_operator (together first.n second.n); total = (omega (arith, first.total.0, second.total.0), omega (arith, first.total.1, second.total.1)); within = second.within; stands = make first.n second.n at a.0 b.0 ts w.1 f.1 g.1 word.1 first.stands second.stands })
 
 -- what is read behind the operand of the operator k makes a table of it
 abbrev MakesOne : Count → ℕ → Keyword → (ℕ → Counted → Reader Counted) → Type 0
 MakesOne limit d k rest = (taken : Count) (at : ℕ) (a : Counted) (t1 t2 t3 : Items) → Word (lex.Key k) at t1 t2 → Counts (Operand d) limit (one_operator taken) a t2 t3 → (x : Counted) (u : Items) → rest at a t3 ≡ read_of x u → Counts (Table d) limit taken x t1 u
 
-one_sound : (limit : Count) (d : ℕ) (k : Keyword) (rest : ℕ → Counted → Reader Counted) → MakesOne limit d k rest → CountSound (Operand d) limit (r.operand limit d) → (taken : Count) (ts : Items) (x : Counted) (u : Items) → head_word ts ≡ Some (lex.Key k)
+one_sound : (limit : Count) (d : ℕ) (k : Keyword) (rest : ℕ → Counted → Reader Counted) → MakesOne limit d k rest → CountSound (Operand d) limit (r.operand limit d) → (taken : Count) → IsWithin taken limit → (ts : Items) (x : Counted) (u : Items) → head_word ts ≡ Some (lex.Key k)
     → (r.operator_word limit taken >>= r.one_by rest (r.operand limit d) taken) ts ≡ read_of x u → Counts (Table d) limit taken x ts u
-one_sound limit d k rest makes os taken ts x u h e =
+one_sound limit d k rest makes os taken le ts x u h e =
     let w = bind_ok (r.operator_word limit taken ts) (r.one_by rest (r.operand limit d) taken) (x, u) e in
     let word = operator_sound limit taken (lex.Key k) ts w.0 w.1 h w.2 in
     let f = bind_ok (r.operand limit d (one_operator taken) w.1) (rest w.0) (x, u) w.3 in
-    makes taken w.0 f.0 ts w.1 f.1 word.1 (os (one_operator taken) (omega (arith, word.0)) w.1 f.0 f.1 f.2) x u f.3
+    makes taken w.0 f.0 ts w.1 f.1 word.1 (os (one_operator taken) (omega (arith, word.0), le.1) w.1 f.0 f.1 f.2) x u f.3
 
 agg_makes : (limit : Count) (d : ℕ) → MakesOne limit d key.Agg r.agg_rest
 agg_makes limit d taken at a t1 t2 t3 w first x u e =
     let g = bind_ok (r.keyword key.By t3) (λ by. r.some_names >>= λ ns. give (node at (op.Agg a.0 ns), a.1)) (x, u) e in
     let l = bind_ok (r.some_names g.1) (λ ns. give (node at (op.Agg a.0 ns), a.1)) (x, u) g.3 in
     give_to (λ y q. Counts (Table d) limit taken y t1 q) (node at (op.Agg a.0 l.0), a.1) l.1 x u l.3
-    (record { n = one_operator first.n; total = omega (arith, first.total); within = first.within; stands = agg d first.n at g.0 a.0 l.0 t1 t2 t3 g.1 l.1 w first.stands (keyword_sound key.By t3 g.0 g.1 g.2) (some_names_sound g.1 l.0 l.1 l.2) })
+    (record { n = one_operator first.n; total = (omega (arith, first.total.0), omega (arith, first.total.1)); within = first.within; stands = agg d first.n at g.0 a.0 l.0 t1 t2 t3 g.1 l.1 w first.stands (keyword_sound key.By t3 g.0 g.1 g.2) (some_names_sound g.1 l.0 l.1 l.2) })
 
 rename_makes : (limit : Count) (d : ℕ) → MakesOne limit d key.Rename r.rename_rest
 rename_makes limit d taken at a t1 t2 t3 w first x u e =
     let g = bind_ok (r.pairs t3) (λ ps. give (node at (op.Rename a.0 ps), a.1)) (x, u) e in
     give_to (λ y q. Counts (Table d) limit taken y t1 q) (node at (op.Rename a.0 g.0), a.1) g.1 x u g.3
-    (record { n = one_operator first.n; total = omega (arith, first.total); within = first.within; stands = rename d first.n at a.0 g.0 t1 t2 t3 g.1 w first.stands (pairs_sound t3 g.0 g.1 g.2) })
+    (record { n = one_operator first.n; total = (omega (arith, first.total.0), omega (arith, first.total.1)); within = first.within; stands = rename d first.n at a.0 g.0 t1 t2 t3 g.1 w first.stands (pairs_sound t3 g.0 g.1 g.2) })
 
 lone_sound : (limit : Count) (d : ℕ) → CountSound (Operand d) limit (r.operand limit d) → CountSound (Table d) limit (r.operand limit d)
 lone_sound limit d os taken le ts x u e = let a = os taken le ts x u e in record { n = a.n; total = a.total; within = a.within; stands = operand d a.n x.0 ts u a.stands }
 
-table_when : (limit : Count) (d : ℕ) → CountSound (Operand d) limit (r.operand limit d) → (taken : Count) → taken.operators ≤ limit.operators → (o : Option Lexeme) (ts : Items) (x : Counted) (u : Items) → head_word ts ≡ o → r.table_by limit (r.operand limit d) taken o ts ≡ read_of x u → Counts (Table d) limit taken x ts u
-table_when limit d os taken le (Some (lex.Key key.Join)) ts x u h e = two_sound limit d op.Join key.Join (join d) os taken ts x u h e
-table_when limit d os taken le (Some (lex.Key key.Union)) ts x u h e = two_sound limit d op.Union key.Union (union d) os taken ts x u h e
-table_when limit d os taken le (Some (lex.Key key.Agg)) ts x u h e = one_sound limit d key.Agg r.agg_rest (agg_makes limit d) os taken ts x u h e
-table_when limit d os taken le (Some (lex.Key key.Rename)) ts x u h e = one_sound limit d key.Rename r.rename_rest (rename_makes limit d) os taken ts x u h e
+table_when : (limit : Count) (d : ℕ) → CountSound (Operand d) limit (r.operand limit d) → (taken : Count) → IsWithin taken limit → (o : Option Lexeme) (ts : Items) (x : Counted) (u : Items) → head_word ts ≡ o → r.table_by limit (r.operand limit d) taken o ts ≡ read_of x u → Counts (Table d) limit taken x ts u
+table_when limit d os taken le (Some (lex.Key key.Join)) ts x u h e = two_sound limit d op.Join key.Join (join d) os taken le ts x u h e
+table_when limit d os taken le (Some (lex.Key key.Union)) ts x u h e = two_sound limit d op.Union key.Union (union d) os taken le ts x u h e
+table_when limit d os taken le (Some (lex.Key key.Agg)) ts x u h e = one_sound limit d key.Agg r.agg_rest (agg_makes limit d) os taken le ts x u h e
+table_when limit d os taken le (Some (lex.Key key.Rename)) ts x u h e = one_sound limit d key.Rename r.rename_rest (rename_makes limit d) os taken le ts x u h e
 table_when limit d os taken le w ts x u h e = lone_sound limit d os taken le ts x u e
 
 table_from : (limit : Count) (d : ℕ) → InsideSound limit d → CountSound (Table d) limit (r.table limit d)
@@ -330,9 +331,9 @@ statement_when limits (Some (lex.Name n)) ts x u h e =
     let c = bind_ok (r.table limits.counted limits.levels none_counted b.1) (λ t. sign Semi >>= λ end. give (st.Assign a.0.at a.0 t.0)) (x, u) b.3 in
     let t = c.0 in
     let d = bind_ok (sign Semi c.1) (λ end. give (st.Assign a.0.at a.0 t.0)) (x, u) c.3 in
-    let s = table_sound limits.counted limits.levels none_counted (omega arith) b.1 t c.1 c.2 in
+    let s = table_sound limits.counted limits.levels none_counted (omega arith, omega arith) b.1 t c.1 c.2 in
     give_to (λ y q. Statement limits y ts q) (st.Assign a.0.at a.0 t.0) d.1 x u d.3
-    (assign b.0 d.0 s.n a.0 t.0 ts a.1 b.1 c.1 d.1 (name_sound ts a.0 a.1 a.2) (sign_sound Is a.1 b.0 b.1 b.2) s.stands (omega (arith, s.total, s.within)) (sign_sound Semi c.1 d.0 d.1 d.2))
+    (assign b.0 d.0 s.n a.0 t.0 ts a.1 b.1 c.1 d.1 (name_sound ts a.0 a.1 a.2) (sign_sound Is a.1 b.0 b.1 b.2) s.stands (omega (arith, s.total.0, s.within.0), omega (arith, s.total.1, s.within.1)) (sign_sound Semi c.1 d.0 d.1 d.2))
 statement_when limits (Some (lex.Key key.Print)) ts x u h e =
     let a = bind_ok (skip ts) print_rest (x, u) e in
     let b = bind_ok (r.name a.1) (λ n. r.some_order >>= λ by. sign Semi >>= λ end. give (st.Print a.0 n by)) (x, u) a.3 in

@@ -16,7 +16,7 @@ use Rattle.lara_syntax.specs.declared.ast.AstOp.{AstOp}
 use Rattle.lara_syntax.specs.declared.ast.AstOp.TheVariants as op
 use Rattle.lara_syntax.specs.declared.ast.AstStatement.{AstStatement}
 use Rattle.lara_syntax.specs.declared.ast.AstStatement.TheVariants as st
-use Rattle.lara_syntax.specs.Limits.{Limits, none_counted, one_operator}
+use Rattle.lara_syntax.specs.Limits.{Limits, none_counted, one_operator, IsWithin}
 use Rattle.lara_syntax.specs.declared.count.Count.{Count}
 use Rattle.lara_syntax.specs.Steps.{Items, Read, Reader, onward, ◌>>=◌, give, refuse, skip, head_word}
 use Rattle.lara_syntax.specs.Reading as r
@@ -29,42 +29,42 @@ use Rattle.lara_syntax.proofs.RuleReaders.{AreReaders, sign-reads, some_names-re
 use Rattle.lara_syntax.proofs.Complete.{chosen, step}
 use Rattle.lara_syntax.proofs.PlainRules.{Plain, plain_bind, plain_give, plain_skip, plain_refuse, sign-plain, name-plain, some_names-plain, leaf-plain, keyword-plain, pairs-plain, print_rest-plain}
 use Rattle.lara_syntax.proofs.Room.{room_left}
-use Rattle.lara_syntax.proofs.Wider.{Less, Fits, Past, Wider, Widens, always, past_read, past_onward, wider_onward, widens_bind, widens_give, widens_plain, wider_of}
+use Rattle.lara_syntax.proofs.Wider.{Less, LessCount, Fits, Past, Wider, Widens, always, past_read, past_onward, wider_onward, widens_bind, widens_give, widens_plain, wider_of}
 
 -- ---- operators
 
--- no more operator words than this
+-- no more of what is counted than this
 abbrev pub Within : Count → Counted → Type 0
-Within limit x = x.1.operators ≤ limit.operators
+Within limit x = IsWithin x.1 limit
 
 abbrev pub CountWidens : Count → (Count → Reader Counted) → (Count → Reader Counted) → Type 0
-CountWidens limit p q = (taken : Count) → taken.operators ≤ limit.operators → Widens (Within limit) (p taken) (q taken)
+CountWidens limit p q = (taken : Count) → IsWithin taken limit → Widens (Within limit) (p taken) (q taken)
 
 operator_wider : (b c : Bool) (P : Type 0) → (b ≡ true → P) → c ≡ true → (t : Item) (us : Items) → Wider (λ (at : ℕ). P) (cond b skip (refuse TooMany) (t ∷ us)) (cond c skip (refuse TooMany) (t ∷ us))
 operator_wider true true P f e t us = inl (refl, f refl)
 operator_wider false true P f e t us = inr (record { left = suc (length us); kind = TooMany }, refl, refl, omega arith)
 operator_wider b false P f e t us = absurd cc
 
-operator_widens : (limit more taken : Count) → limit.operators < more.operators → taken.operators ≤ limit.operators → (ts : Items) (w : Lexeme) → head_word ts ≡ Some w → Wider (λ (at : ℕ). taken.operators < limit.operators) (r.operator_word limit taken ts) (r.operator_word more taken ts)
+operator_widens : (limit more taken : Count) → LessCount limit more → IsWithin taken limit → (ts : Items) (w : Lexeme) → head_word ts ≡ Some w → Wider (λ (at : ℕ). taken.operators < limit.operators) (r.operator_word limit taken ts) (r.operator_word more taken ts)
 unfolding r.operator_word
 operator_widens limit more taken lt le [] w h = absurd cc
-operator_widens limit more taken lt le (t ∷ us) w h = operator_wider (nat_lt taken.operators limit.operators) (nat_lt taken.operators more.operators) (taken.operators < limit.operators) (ltb-true taken.operators limit.operators) (lt-ltb taken.operators more.operators (omega (arith, lt, le))) t us
+operator_widens limit more taken lt le (t ∷ us) w h = operator_wider (nat_lt taken.operators limit.operators) (nat_lt taken.operators more.operators) (taken.operators < limit.operators) (ltb-true taken.operators limit.operators) (lt-ltb taken.operators more.operators (omega (arith, lt.0, le.0))) t us
 
-two_widens : (limit : Count) (what : AstNode → AstNode → AstOp) (o q : Count → Reader Counted) → AreReaders q → CountWidens limit o q → (taken : Count) → (at : ℕ) → taken.operators < limit.operators → Widens (Within limit) (r.two_by what o taken at) (r.two_by what q taken at)
-two_widens limit what o q iq w taken at lt =
-    widens_bind (Within limit) (Within limit) (o (one_operator taken)) (q (one_operator taken)) (λ a. o a.1 >>= λ b. give (node at (what a.0 b.0), b.1)) (λ a. q a.1 >>= λ b. give (node at (what a.0 b.0), b.1)) (w (one_operator taken) (omega (arith, lt)))
+two_widens : (limit : Count) (what : AstNode → AstNode → AstOp) (o q : Count → Reader Counted) → AreReaders q → CountWidens limit o q → (taken : Count) → IsWithin taken limit → (at : ℕ) → taken.operators < limit.operators → Widens (Within limit) (r.two_by what o taken at) (r.two_by what q taken at)
+two_widens limit what o q iq w taken le at lt =
+    widens_bind (Within limit) (Within limit) (o (one_operator taken)) (q (one_operator taken)) (λ a. o a.1 >>= λ b. give (node at (what a.0 b.0), b.1)) (λ a. q a.1 >>= λ b. give (node at (what a.0 b.0), b.1)) (w (one_operator taken) (omega (arith, lt), le.1))
     (λ a ha. widens_bind (Within limit) (Within limit) (o a.1) (q a.1) (λ b. give (node at (what a.0 b.0), b.1)) (λ b. give (node at (what a.0 b.0), b.1)) (w a.1 ha) (λ b hb. widens_give (Within limit) (node at (what a.0 b.0), b.1) hb) (λ b. reads_give _))
     (λ a. reads_bind (q a.1) _ (iq a.1) (λ b. reads_give _))
 
 -- what is behind the operand of an operator
 abbrev RestWidens : Count → (ℕ → Counted → Reader Counted) → (ℕ → Counted → Reader Counted) → Type 0
-RestWidens limit rest wide = (at : ℕ) (a : Counted) → a.1.operators ≤ limit.operators → Widens (Within limit) (rest at a) (wide at a)
+RestWidens limit rest wide = (at : ℕ) (a : Counted) → IsWithin a.1 limit → Widens (Within limit) (rest at a) (wide at a)
 
-one_widens : (limit : Count) (rest wide : ℕ → Counted → Reader Counted) → RestReads wide → RestWidens limit rest wide → (o q : Count → Reader Counted) → CountWidens limit o q → (taken : Count) → (at : ℕ) → taken.operators < limit.operators → Widens (Within limit) (r.one_by rest o taken at) (r.one_by wide q taken at)
-one_widens limit rest wide reads widens o q w taken at lt = widens_bind (Within limit) (Within limit) (o (one_operator taken)) (q (one_operator taken)) (rest at) (wide at) (w (one_operator taken) (omega (arith, lt))) (widens at) (reads at)
+one_widens : (limit : Count) (rest wide : ℕ → Counted → Reader Counted) → RestReads wide → RestWidens limit rest wide → (o q : Count → Reader Counted) → CountWidens limit o q → (taken : Count) → IsWithin taken limit → (at : ℕ) → taken.operators < limit.operators → Widens (Within limit) (r.one_by rest o taken at) (r.one_by wide q taken at)
+one_widens limit rest wide reads widens o q w taken le at lt = widens_bind (Within limit) (Within limit) (o (one_operator taken)) (q (one_operator taken)) (rest at) (wide at) (w (one_operator taken) (omega (arith, lt), le.1)) (widens at) (reads at)
 
 -- a rest without limits
-rest_widens : {A : Type 0} (limit : Count) (p : Reader A) (f : A → Counted) → Plain p → ((x : A) → (f x).1.operators ≤ limit.operators) → Widens (Within limit) (p >>= λ x. give (f x)) (p >>= λ x. give (f x))
+rest_widens : {A : Type 0} (limit : Count) (p : Reader A) (f : A → Counted) → Plain p → ((x : A) → IsWithin (f x).1 limit) → Widens (Within limit) (p >>= λ x. give (f x)) (p >>= λ x. give (f x))
 rest_widens limit p f plain le = widens_bind always (Within limit) p p (λ x. give (f x)) (λ x. give (f x)) (widens_plain p plain) (λ x h. widens_give (Within limit) (f x) (le x)) (λ x. reads_give (f x))
 
 agg_names-reads : (at : ℕ) (a : Counted) → IsReader (r.some_names >>= λ ns. give {A = Counted} (node at (op.Agg a.0 ns), a.1))
@@ -79,23 +79,23 @@ rename_rest_widens : (limit : Count) → RestWidens limit r.rename_rest r.rename
 rename_rest_widens limit at a ha = rest_widens limit r.pairs (λ ps. (node at (op.Rename a.0 ps), a.1)) pairs-plain (λ ps. ha)
 
 -- an operator word, and what is behind it
-operator_behind : (limit more taken : Count) → limit.operators < more.operators → taken.operators ≤ limit.operators → (f g : ℕ → Reader Counted) → ((at : ℕ) → taken.operators < limit.operators → Widens (Within limit) (f at) (g at)) → ((at : ℕ) → IsReader (g at)) → (ts : Items) (w : Lexeme) → head_word ts ≡ Some w
+operator_behind : (limit more taken : Count) → LessCount limit more → IsWithin taken limit → (f g : ℕ → Reader Counted) → ((at : ℕ) → taken.operators < limit.operators → Widens (Within limit) (f at) (g at)) → ((at : ℕ) → IsReader (g at)) → (ts : Items) (w : Lexeme) → head_word ts ≡ Some w
     → Wider (Within limit) ((r.operator_word limit taken >>= f) ts) ((r.operator_word more taken >>= g) ts)
 operator_behind limit more taken lt le f g fg ig ts w h = wider_onward (λ at. taken.operators < limit.operators) (Within limit) f g fg ig (r.operator_word limit taken ts) (r.operator_word more taken ts) (operator_widens limit more taken lt le ts w h)
 
-table_by_widens : (limit more : Count) (o q : Count → Reader Counted) → limit.operators < more.operators → AreReaders q → CountWidens limit o q → (taken : Count) → taken.operators ≤ limit.operators → (w : Option Lexeme) (ts : Items) → head_word ts ≡ w → Wider (Within limit) (r.table_by limit o taken w ts) (r.table_by more q taken w ts)
-table_by_widens limit more o q lt iq w taken le (Some (lex.Key key.Join)) ts h = operator_behind limit more taken lt le (r.two_by op.Join o taken) (r.two_by op.Join q taken) (two_widens limit op.Join o q iq w taken) (two_by-reads op.Join q iq taken) ts (lex.Key key.Join) h
-table_by_widens limit more o q lt iq w taken le (Some (lex.Key key.Union)) ts h = operator_behind limit more taken lt le (r.two_by op.Union o taken) (r.two_by op.Union q taken) (two_widens limit op.Union o q iq w taken) (two_by-reads op.Union q iq taken) ts (lex.Key key.Union) h
-table_by_widens limit more o q lt iq w taken le (Some (lex.Key key.Agg)) ts h = operator_behind limit more taken lt le (r.one_by r.agg_rest o taken) (r.one_by r.agg_rest q taken) (one_widens limit r.agg_rest r.agg_rest agg_rest-reads (agg_rest_widens limit) o q w taken) (one_by-reads r.agg_rest agg_rest-reads q iq taken) ts (lex.Key key.Agg) h
-table_by_widens limit more o q lt iq w taken le (Some (lex.Key key.Rename)) ts h = operator_behind limit more taken lt le (r.one_by r.rename_rest o taken) (r.one_by r.rename_rest q taken) (one_widens limit r.rename_rest r.rename_rest rename_rest-reads (rename_rest_widens limit) o q w taken) (one_by-reads r.rename_rest rename_rest-reads q iq taken) ts (lex.Key key.Rename) h
+table_by_widens : (limit more : Count) (o q : Count → Reader Counted) → LessCount limit more → AreReaders q → CountWidens limit o q → (taken : Count) → IsWithin taken limit → (w : Option Lexeme) (ts : Items) → head_word ts ≡ w → Wider (Within limit) (r.table_by limit o taken w ts) (r.table_by more q taken w ts)
+table_by_widens limit more o q lt iq w taken le (Some (lex.Key key.Join)) ts h = operator_behind limit more taken lt le (r.two_by op.Join o taken) (r.two_by op.Join q taken) (two_widens limit op.Join o q iq w taken le) (two_by-reads op.Join q iq taken) ts (lex.Key key.Join) h
+table_by_widens limit more o q lt iq w taken le (Some (lex.Key key.Union)) ts h = operator_behind limit more taken lt le (r.two_by op.Union o taken) (r.two_by op.Union q taken) (two_widens limit op.Union o q iq w taken le) (two_by-reads op.Union q iq taken) ts (lex.Key key.Union) h
+table_by_widens limit more o q lt iq w taken le (Some (lex.Key key.Agg)) ts h = operator_behind limit more taken lt le (r.one_by r.agg_rest o taken) (r.one_by r.agg_rest q taken) (one_widens limit r.agg_rest r.agg_rest agg_rest-reads (agg_rest_widens limit) o q w taken le) (one_by-reads r.agg_rest agg_rest-reads q iq taken) ts (lex.Key key.Agg) h
+table_by_widens limit more o q lt iq w taken le (Some (lex.Key key.Rename)) ts h = operator_behind limit more taken lt le (r.one_by r.rename_rest o taken) (r.one_by r.rename_rest q taken) (one_widens limit r.rename_rest r.rename_rest rename_rest-reads (rename_rest_widens limit) o q w taken le) (one_by-reads r.rename_rest rename_rest-reads q iq taken) ts (lex.Key key.Rename) h
 table_by_widens limit more o q lt iq w taken le v ts h = w taken le ts
 
 -- ---- levels
 
 abbrev InsideWidens : Count → Count → ℕ → ℕ → Type 0
-InsideWidens limit more levels deeper = (taken : Count) → taken.operators ≤ limit.operators → (ts : Items) → head_word ts ≡ Some (lex.Sign Open) → Wider (Within limit) (r.inside limit levels taken ts) (r.inside more deeper taken ts)
+InsideWidens limit more levels deeper = (taken : Count) → IsWithin taken limit → (ts : Items) → head_word ts ≡ Some (lex.Sign Open) → Wider (Within limit) (r.inside limit levels taken ts) (r.inside more deeper taken ts)
 
-operand_by_widens : (limit more : Count) (levels deeper : ℕ) → InsideWidens limit more levels deeper → (taken : Count) → taken.operators ≤ limit.operators → (w : Option Lexeme) (ts : Items) → head_word ts ≡ w → Wider (Within limit) (r.operand_by (r.inside limit levels) taken w ts) (r.operand_by (r.inside more deeper) taken w ts)
+operand_by_widens : (limit more : Count) (levels deeper : ℕ) → InsideWidens limit more levels deeper → (taken : Count) → IsWithin taken limit → (w : Option Lexeme) (ts : Items) → head_word ts ≡ w → Wider (Within limit) (r.operand_by (r.inside limit levels) taken w ts) (r.operand_by (r.inside more deeper) taken w ts)
 operand_by_widens limit more levels deeper iw taken le (Some (lex.Sign Open)) ts h = iw taken le ts h
 operand_by_widens limit more levels deeper iw taken le w ts h = widens_bind always (Within limit) r.leaf r.leaf (counted taken) (counted taken) (widens_plain r.leaf leaf-plain) (λ x hx. widens_give (Within limit) (x, taken) le) (λ x. reads_give {A = Counted} (x, taken)) ts
 
@@ -103,15 +103,15 @@ operand_widens : (limit more : Count) (levels deeper : ℕ) → InsideWidens lim
 unfolding r.operand
 operand_widens limit more levels deeper iw taken le ts = operand_by_widens limit more levels deeper iw taken le (head_word ts) ts refl
 
-table_from : (limit more : Count) (levels deeper : ℕ) → limit.operators < more.operators → InsideWidens limit more levels deeper → CountWidens limit (r.table limit levels) (r.table more deeper)
+table_from : (limit more : Count) (levels deeper : ℕ) → LessCount limit more → InsideWidens limit more levels deeper → CountWidens limit (r.table limit levels) (r.table more deeper)
 unfolding r.table
 table_from limit more levels deeper lt iw taken le ts = table_by_widens limit more (r.operand limit levels) (r.operand more deeper) lt (operand-reads more deeper) (operand_widens limit more levels deeper iw) taken le (head_word ts) ts refl
 
 -- a table in brackets is closed
-closed_widens : (limit : Count) (x : Counted) → x.1.operators ≤ limit.operators → Widens (Within limit) (sign Close >>= λ end. give x) (sign Close >>= λ end. give x)
+closed_widens : (limit : Count) (x : Counted) → IsWithin x.1 limit → Widens (Within limit) (sign Close >>= λ end. give x) (sign Close >>= λ end. give x)
 closed_widens limit x le = widens_bind always (Within limit) (sign Close) (sign Close) (λ end. give x) (λ end. give x) (widens_plain (sign Close) (sign-plain Close)) (λ end he. widens_give (Within limit) x le) (λ end. reads_give x)
 
-inside_widens : (limit more : Count) (levels deeper : ℕ) → limit.operators < more.operators → levels < deeper → InsideWidens limit more levels deeper
+inside_widens : (limit more : Count) (levels deeper : ℕ) → LessCount limit more → levels < deeper → InsideWidens limit more levels deeper
 unfolding r.inside r.table r.operand
 inside_widens limit more levels zero lt deep taken le ts h = absurd (omega (arith, deep))
 inside_widens limit more levels (suc deeper) lt deep taken le [] h = absurd cc
@@ -121,7 +121,7 @@ inside_widens limit more (suc levels) (suc deeper) lt deep taken le (t ∷ us) h
     widens_bind (Within limit) (Within limit) (r.table limit levels taken) (r.table more deeper taken) (λ x. sign Close >>= λ end. give x) (λ x. sign Close >>= λ end. give x) (table_from limit more levels deeper lt (inside_widens limit more levels deeper lt (omega (arith, deep))) taken le)
     (closed_widens limit) (λ x. reads_bind (sign Close) _ (sign-reads Close) (λ end. reads_give x)) us
 
-table_widens : (limit more : Count) (levels deeper : ℕ) → limit.operators < more.operators → levels < deeper → CountWidens limit (r.table limit levels) (r.table more deeper)
+table_widens : (limit more : Count) (levels deeper : ℕ) → LessCount limit more → levels < deeper → CountWidens limit (r.table limit levels) (r.table more deeper)
 table_widens limit more levels deeper lt deep = table_from limit more levels deeper lt (inside_widens limit more levels deeper lt deep)
 
 -- ---- statements
@@ -129,7 +129,7 @@ table_widens limit more levels deeper lt deep = table_from limit more levels dee
 assign_widens : (a b : Limits) → Less a b → (x : AstName) → Widens always (assign_rest a x) (assign_rest b x)
 assign_widens a b less x =
     widens_bind always always (sign Is) (sign Is) (λ is. r.table a.counted a.levels none_counted >>= assign_end x) (λ is. r.table b.counted b.levels none_counted >>= assign_end x) (widens_plain (sign Is) (sign-plain Is))
-    (λ is h. widens_bind (Within a.counted) always (r.table a.counted a.levels none_counted) (r.table b.counted b.levels none_counted) (assign_end x) (assign_end x) (table_widens a.counted b.counted a.levels b.levels less.2 less.1 none_counted (omega arith))
+    (λ is h. widens_bind (Within a.counted) always (r.table a.counted a.levels none_counted) (r.table b.counted b.levels none_counted) (assign_end x) (assign_end x) (table_widens a.counted b.counted a.levels b.levels less.2 less.1 none_counted (omega arith, omega arith))
     (λ t k. widens_plain (assign_end x t) (plain_bind (sign Semi) (λ end. give (st.Assign x.at x t.0)) (sign-plain Semi) (λ end. plain_give _))) (assign_end-reads x))
     (λ is. reads_bind (r.table b.counted b.levels none_counted) (assign_end x) (table-reads b.counted b.levels none_counted) (assign_end-reads x))
 

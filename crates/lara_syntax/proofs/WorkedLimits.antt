@@ -26,11 +26,11 @@ a = record { name = 97 ∷ []; at = 0 }
 
 -- ---- operators
 
-last_operator : r.operator_word most.counted (record { operators = 63 }) (word (lex.Key key.Join) ∷ []) ≡ read_of 0 []
+last_operator : r.operator_word most.counted (record { operators = 63; signs = 1024 }) (word (lex.Key key.Join) ∷ []) ≡ read_of 0 []
 unfolding r.operator_word
 last_operator = refl
 
-operator_too_many : r.operator_word most.counted (record { operators = 64 }) (word (lex.Key key.Join) ∷ []) ≡ erred (record { left = 1; kind = TooMany })
+operator_too_many : r.operator_word most.counted (record { operators = 64; signs = 0 }) (word (lex.Key key.Join) ∷ []) ≡ erred (record { left = 1; kind = TooMany })
 unfolding r.operator_word
 operator_too_many = refl
 
