@@ -33,10 +33,13 @@ use Rattle.lara_syntax.proofs.Counts.{IsSum, sum_none}
 use Rattle.lara_syntax.specs.declared.count.Count.{Count}
 use Rattle.lara_syntax.specs.Steps.{Items, Read, Reader, ◌>>=◌, give, refuse, peek, skip, items_from, head_word}
 use Rattle.lara_syntax.specs.Reading as r
+use Rattle.lara_syntax.specs.WordReading as words
 use Rattle.lara_syntax.proofs.WordTextLaws.{same_keyword-refl, same_sign-refl}
 use Rattle.lara_syntax.specs.Places.{node}
-use Rattle.lara_syntax.specs.Reading.{sign, sign_by, next_as, taken_as, comma_by, Counted}
-use Rattle.lara_syntax.specs.Grammar.{Word, word, Mark, Key, Named, literal_word, Lit, key_type_word, KeyTyped, val_type_word, ValTyped, Many, none, more, CommaThen, comma_then, Commas, commas, Maybe, nothing, just, KeyCol, key_col, ValCol, val_col, TypeOf, columns, Entry, entry, SemiEntry, semi_entry, SomeSemi, no_semi, semi, Entries, entries, Pair, pair, Leaf, named, load, literal, Operand, leaf, inside, Table, join, union, agg, rename, operand, SomeOrder, no_order, order, Statement, assign, print, Script}
+use Rattle.lara_syntax.specs.Reading.{Counted}
+use Rattle.lara_syntax.specs.WordReading.{sign, sign_by, next_as, taken_as, comma_by}
+use Rattle.lara_syntax.specs.Grammar.{KeyCol, key_col, ValCol, val_col, TypeOf, columns, Entry, entry, SemiEntry, semi_entry, SomeSemi, no_semi, semi, Entries, entries, Pair, pair, Leaf, named, load, literal, Operand, leaf, inside, Table, join, union, agg, rename, operand, SomeOrder, no_order, order, Statement, assign, print, Script}
+use Rattle.lara_syntax.specs.WordGrammar.{Word, word, Mark, Key, Named, literal_word, Lit, key_type_word, KeyTyped, val_type_word, ValTyped, Many, none, more, CommaThen, comma_then, Commas, commas, Maybe, nothing, just}
 use Rattle.lara_syntax.proofs.Levels.{inside_rest}
 use Rattle.lara_syntax.proofs.Turns.{TakesOne, read_of, items-some, items-none}
 use Rattle.lara_syntax.proofs.RuleReaders.{comma_name-one, comma_key_col-one, comma_val_col-one, comma_lit-one, semi_entry-one, comma_pair-one, has_room, next_behind, tree_given, statements-some, statements-none}
@@ -61,19 +64,19 @@ pub sign_reads : (m : Sign) (at : ℕ) (ts us : Items) → Mark m at ts us → s
 unfolding sign
 sign_reads m at ts us h = chosen (sign_by m) ts (Some (lex.Sign m)) (read_of at us) (head_is _ at ts us h) (ap (λ (b : Bool). cond b skip (refuse Unexpected) ts) (same_sign-refl m) ∙ skip_is _ at ts us h)
 
-pub keyword_reads : (k : Keyword) (at : ℕ) (ts us : Items) → Key k at ts us → r.keyword k ts ≡ read_of at us
-unfolding r.keyword
-keyword_reads k at ts us h = chosen (r.keyword_by k) ts (Some (lex.Key k)) (read_of at us) (head_is _ at ts us h) (ap (λ (b : Bool). cond b skip (refuse Unexpected) ts) (same_keyword-refl k) ∙ skip_is _ at ts us h)
+pub keyword_reads : (k : Keyword) (at : ℕ) (ts us : Items) → Key k at ts us → words.keyword k ts ≡ read_of at us
+unfolding words.keyword
+keyword_reads k at ts us h = chosen (words.keyword_by k) ts (Some (lex.Key k)) (read_of at us) (head_is _ at ts us h) (ap (λ (b : Bool). cond b skip (refuse Unexpected) ts) (same_keyword-refl k) ∙ skip_is _ at ts us h)
 
-pub name_reads : (x : AstName) (ts us : Items) → Named x ts us → r.name ts ≡ read_of x us
-unfolding r.name
-name_reads x ts us h = chosen r.name_by ts (Some (lex.Name x.name)) (read_of x us) (head_is _ x.at ts us h) (rw (skip_is _ x.at ts us h) refl)
+pub name_reads : (x : AstName) (ts us : Items) → Named x ts us → words.name ts ≡ read_of x us
+unfolding words.name
+name_reads x ts us h = chosen words.name_by ts (Some (lex.Name x.name)) (read_of x us) (head_is _ x.at ts us h) (rw (skip_is _ x.at ts us h) refl)
 
 -- a word that stands for something
 as_reads : {A B : Type 0} (make : ℕ → A → B) (f : Lexeme → Option A) (w : Lexeme) (x : A) (at : ℕ) (ts us : Items) → f w ≡ Some x → Word w at ts us → (peek >>= λ o. taken_as make (next_as f o)) ts ≡ read_of (make at x) us
 as_reads {A = A} make f w x at ts us e h = chosen (λ o. taken_as make (next_as f o)) ts (Some w) (read_of (make at x) us) (head_is w at ts us h) (ap (λ (o : Option A). taken_as make o ts) e ∙ rw (skip_is w at ts us h) refl)
 
-literal_is : (v : AstValue) → r.literal_of (literal_word v) ≡ Some v
+literal_is : (v : AstValue) → words.literal_of (literal_word v) ≡ Some v
 literal_is (val.Number n) = refl
 literal_is (val.Text content) = refl
 literal_is (val.Flag true) = refl
@@ -81,20 +84,20 @@ literal_is (val.Flag false) = refl
 literal_is val.Inf = refl
 literal_is val.None = refl
 
-lit_reads : (x : AstLit) (ts us : Items) → Lit x ts us → r.lit ts ≡ read_of x us
-unfolding r.lit
-lit_reads x ts us h = as_reads r.lit_at r.literal_of (literal_word x.value) x.value x.at ts us (literal_is x.value) h
+lit_reads : (x : AstLit) (ts us : Items) → Lit x ts us → words.lit ts ≡ read_of x us
+unfolding words.lit
+lit_reads x ts us h = as_reads words.lit_at words.literal_of (literal_word x.value) x.value x.at ts us (literal_is x.value) h
 
-key_type_is : (t : KeyType) → r.word_key_type (lex.Key (key_type_word t)) ≡ Some t
+key_type_is : (t : KeyType) → words.word_key_type (lex.Key (key_type_word t)) ≡ Some t
 key_type_is key_type_of.Nat = refl
 key_type_is key_type_of.Text = refl
 key_type_is key_type_of.Flag = refl
 
-key_type_reads : (x : KeyType) (ts us : Items) → KeyTyped x ts us → r.key_type ts ≡ read_of x us
-unfolding r.key_type
-key_type_reads x ts us h = as_reads r.without_place r.word_key_type (lex.Key (key_type_word x)) x h.0 ts us (key_type_is x) h.1
+key_type_reads : (x : KeyType) (ts us : Items) → KeyTyped x ts us → words.key_type ts ≡ read_of x us
+unfolding words.key_type
+key_type_reads x ts us h = as_reads words.without_place words.word_key_type (lex.Key (key_type_word x)) x h.0 ts us (key_type_is x) h.1
 
-val_type_is : (t : ValType) → r.word_val_type (lex.Key (val_type_word t)) ≡ Some t
+val_type_is : (t : ValType) → words.word_val_type (lex.Key (val_type_word t)) ≡ Some t
 val_type_is val_type_of.Count = refl
 val_type_is val_type_of.MinPlus = refl
 val_type_is val_type_of.MaxMin = refl
@@ -102,9 +105,9 @@ val_type_is val_type_of.Flag = refl
 val_type_is val_type_of.Last = refl
 val_type_is val_type_of.Path = refl
 
-val_type_reads : (x : ValType) (ts us : Items) → ValTyped x ts us → r.val_type ts ≡ read_of x us
-unfolding r.val_type
-val_type_reads x ts us h = as_reads r.without_place r.word_val_type (lex.Key (val_type_word x)) x h.0 ts us (val_type_is x) h.1
+val_type_reads : (x : ValType) (ts us : Items) → ValTyped x ts us → words.val_type ts ≡ read_of x us
+unfolding words.val_type
+val_type_reads x ts us h = as_reads words.without_place words.word_val_type (lex.Key (val_type_word x)) x h.0 ts us (val_type_is x) h.1
 
 -- ---- lists
 
@@ -138,19 +141,19 @@ no_comma_by : {A : Type 0} (p : Reader A) (w : Option Lexeme) (ts : Items) → N
 no_comma_by p (Some (lex.Sign Comma)) ts a = absurd a
 no_comma_by p w ts a = refl
 
-pub no_comma : {A : Type 0} (p : Reader A) (ts : Items) → NoComma (head_word ts) → r.comma_then p ts ≡ read_of None ts
+pub no_comma : {A : Type 0} (p : Reader A) (ts : Items) → NoComma (head_word ts) → words.comma_then p ts ≡ read_of None ts
 no_comma p ts a = no_comma_by p (head_word ts) ts a
 
-comma_reads : {A : Type 0} (X : A → Items → Items → Type 0) (p : Reader A) → Reads X p → ItemReads (CommaThen X) (r.comma_then p) anything
+comma_reads : {A : Type 0} (X : A → Items → Items → Type 0) (p : Reader A) → Reads X p → ItemReads (CommaThen X) (words.comma_then p) anything
 comma_reads X p reads x ts us (comma_then at y a b c h k) after = chosen (comma_by p) a (Some (lex.Sign Comma)) (read_of (Some y) c) (head_is _ at a b h) (rw (skip_is _ at a b h, reads y b c k) refl)
 
 -- a list of what ends by itself, with what was read before
-list_reads : {A : Type 0} (X : A → Items → Items → Type 0) (p : Reader A) → Reads X p → TakesOne (r.comma_then p) → (x : A) (xs : List A) (ts rest : Items) → Many (CommaThen X) xs ts rest → NoComma (head_word rest) → items_from (r.comma_then p) (x ∷ []) ts ≡ read_of (x ∷ xs) rest
+list_reads : {A : Type 0} (X : A → Items → Items → Type 0) (p : Reader A) → Reads X p → TakesOne (words.comma_then p) → (x : A) (xs : List A) (ts rest : Items) → Many (CommaThen X) xs ts rest → NoComma (head_word rest) → items_from (words.comma_then p) (x ∷ []) ts ≡ read_of (x ∷ xs) rest
 list_reads X p reads one x xs ts rest h after =
-    many_reads (CommaThen X) (r.comma_then p) anything one (comma_reads X p reads) (λ y us vs k. tt) xs ts rest h tt (x ∷ []) ∙ items-none (r.comma_then p) one (x ∷ xs) rest None rest (no_comma p rest after) refl
+    many_reads (CommaThen X) (words.comma_then p) anything one (comma_reads X p reads) (λ y us vs k. tt) xs ts rest h tt (x ∷ []) ∙ items-none (words.comma_then p) one (x ∷ xs) rest None rest (no_comma p rest after) refl
 
-commas_reads : {A : Type 0} (X : A → Items → Items → Type 0) (p : Reader A) → Reads X p → TakesOne (r.comma_then p) → (xs : List A) (ts rest : Items) → Commas X xs ts rest → NoComma (head_word rest) → (p >>= λ x. items_from (r.comma_then p) (x ∷ [])) ts ≡ read_of xs rest
-commas_reads X p reads one xs ts rest (commas x ys a b c h k) after = step p (λ x. items_from (r.comma_then p) (x ∷ [])) a x b (read_of (x ∷ ys) c) (reads x a b h) (list_reads X p reads one x ys b c k after)
+commas_reads : {A : Type 0} (X : A → Items → Items → Type 0) (p : Reader A) → Reads X p → TakesOne (words.comma_then p) → (xs : List A) (ts rest : Items) → Commas X xs ts rest → NoComma (head_word rest) → (p >>= λ x. items_from (words.comma_then p) (x ∷ [])) ts ≡ read_of xs rest
+commas_reads X p reads one xs ts rest (commas x ys a b c h k) after = step p (λ x. items_from (words.comma_then p) (x ∷ [])) a x b (read_of (x ∷ ys) c) (reads x a b h) (list_reads X p reads one x ys b c k after)
 
 -- ---- names
 
@@ -176,7 +179,7 @@ unfolding r.some_names r.comma_name
 some_names_reads ns ts rest (nothing q) after = no_names_by (head_word q) q after
 some_names_reads ns ts rest (just ms a c h) after =
     let n = names_head ms a c h in
-    chosen r.some_names_by a (Some (lex.Name n.0)) (read_of ms c) n.1 (commas_reads Named r.name name_reads comma_name-one ms a c h (names_comma (head_word c) after))
+    chosen r.some_names_by a (Some (lex.Name n.0)) (read_of ms c) n.1 (commas_reads Named words.name name_reads comma_name-one ms a c h (names_comma (head_word c) after))
 
 -- ---- columns
 
@@ -218,12 +221,12 @@ table_type_reads x ts us (columns a b c ks vs t1 t2 t3 t4 t5 t6 h1 h2 h3 h4 h5) 
 
 lits_reads : (xs : List AstLit) (ts rest : Items) → Commas Lit xs ts rest → NoComma (head_word rest) → r.lits ts ≡ read_of xs rest
 unfolding r.lits r.comma_lit
-lits_reads xs ts rest h after = commas_reads Lit r.lit lit_reads comma_lit-one xs ts rest h after
+lits_reads xs ts rest h after = commas_reads Lit words.lit lit_reads comma_lit-one xs ts rest h after
 
 lits_head : (xs : List AstLit) (ts rest : Items) → Commas Lit xs ts rest → (v : AstValue) × (head_word ts ≡ Some (literal_word v))
 lits_head xs ts rest (commas x ys a b c h k) = (x.value, head_is _ x.at a b h)
 
-is_literal_word : (v : AstValue) → r.is_literal (Some (literal_word v)) ≡ true
+is_literal_word : (v : AstValue) → words.is_literal (Some (literal_word v)) ≡ true
 is_literal_word v = ap (λ (o : Option AstValue). is_some o) (literal_is v)
 
 some_lits_reads : (xs : List AstLit) (ts rest : Items) → Maybe (Commas Lit) xs ts rest → Next Colon rest → r.some_lits ts ≡ read_of xs rest

@@ -20,7 +20,8 @@ use Rattle.std.proofs.lemmas.List.{length-append}
 use Rattle.lara_syntax.specs.Limits.{Limits, none_counted, one_operator}
 use Rattle.lara_syntax.specs.declared.count.Count.{Count}
 use Rattle.lara_syntax.specs.Steps.{Items, Reader, ◌>>=◌, give, refuse, peek, skip, items_from, head_word, Fails}
-use Rattle.lara_syntax.specs.Reading.{sign, sign_by, keyword, keyword_by, name, name_by, key_type, key_type_by, val_type, val_type_by, word_key_type, word_val_type, next_as, taken_as, without_place, literal_of, is_literal, lit, lit_at, lit_by, comma_by, comma_then, comma_name, some_names, some_names_by, key_col, comma_key_col, some_key_cols, some_key_cols_by, val_col, comma_val_col, val_cols, table_type, comma_lit, lits, some_lits, some_lits_by, entry, an_entry, entry_here, entry_here_by, semi_entry, semi_entry_by, entries_from, some_entries, leaf, leaf_by, Counted, operand_by, operand_with, pair, comma_pair, pairs, operator_word, two_by, one_by, agg_rest, rename_rest, table_by, table_with, inside, operand, table, some_order, some_order_by, statement, statement_by, no_room, next_by, next_statement, statements, tree_of, script}
+use Rattle.lara_syntax.specs.Reading.{comma_name, some_names, some_names_by, key_col, comma_key_col, some_key_cols, some_key_cols_by, val_col, comma_val_col, val_cols, table_type, comma_lit, lits, some_lits, some_lits_by, entry, an_entry, entry_here, entry_here_by, semi_entry, semi_entry_by, entries_from, some_entries, leaf, leaf_by, Counted, operand_by, operand_with, pair, comma_pair, pairs, operator_word, two_by, one_by, agg_rest, rename_rest, table_by, table_with, inside, operand, table, some_order, some_order_by, statement, statement_by, no_room, next_by, next_statement, statements, tree_of, script}
+use Rattle.lara_syntax.specs.WordReading.{sign, sign_by, keyword, keyword_by, name, name_by, key_type, key_type_by, val_type, val_type_by, word_key_type, word_val_type, next_as, taken_as, without_place, literal_of, is_literal, lit, lit_at, lit_by, comma_by, comma_then}
 use Rattle.lara_syntax.proofs.Levels.{inside_rest}
 use Rattle.lara_syntax.proofs.Turns.{TakesOne, read_of, err_ok, none_some, rest_is, list-some, list-none, list-fail}
 use Rattle.lara_syntax.proofs.Readers.{IsReader, reads_bind, reads_give, reads_refuse, reads_peek, reads_skip, reads_items, reads_list, skip_shortens, bind_ok}

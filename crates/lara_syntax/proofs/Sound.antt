@@ -23,9 +23,12 @@ use Rattle.lara_syntax.proofs.Counts.{IsSum}
 use Rattle.lara_syntax.specs.declared.count.Count.{Count}
 use Rattle.lara_syntax.specs.Steps.{Items, Reader, ◌>>=◌, give, refuse, skip, head_word}
 use Rattle.lara_syntax.specs.Reading as r
+use Rattle.lara_syntax.specs.WordReading as words
 use Rattle.lara_syntax.specs.Places.{first_at, node}
-use Rattle.lara_syntax.specs.Reading.{sign, Counted}
-use Rattle.lara_syntax.specs.Grammar.{Word, Mark, Named, Lit, Many, Commas, commas, Maybe, nothing, just, KeyCol, key_col, ValCol, val_col, TypeOf, columns, Entry, entry, SemiEntry, semi_entry, SomeSemi, no_semi, semi, Entries, entries, Pair, pair, Leaf, named, load, literal, Operand, leaf, inside, Table, join, union, agg, rename, operand, SomeOrder, no_order, order, Statement, assign, print}
+use Rattle.lara_syntax.specs.Reading.{Counted}
+use Rattle.lara_syntax.specs.WordReading.{sign}
+use Rattle.lara_syntax.specs.Grammar.{KeyCol, key_col, ValCol, val_col, TypeOf, columns, Entry, entry, SemiEntry, semi_entry, SomeSemi, no_semi, semi, Entries, entries, Pair, pair, Leaf, named, load, literal, Operand, leaf, inside, Table, join, union, agg, rename, operand, SomeOrder, no_order, order, Statement, assign, print}
+use Rattle.lara_syntax.specs.WordGrammar.{Word, Mark, Named, Lit, Many, Commas, commas, Maybe, nothing, just}
 use Rattle.lara_syntax.proofs.Levels.{inside_rest}
 use Rattle.lara_syntax.proofs.Turns.{read_of, rest_is, err_ok, none_some}
 use Rattle.lara_syntax.proofs.RuleReaders.{comma_name-one, comma_key_col-one, comma_val_col-one, comma_lit-one, semi_entry-one, comma_pair-one, assign_rest, print_rest, has_room, next_behind, next_behind-one}
@@ -36,7 +39,7 @@ use Rattle.lara_syntax.proofs.SoundWords.{give_to, read_some, some_none, word_ta
 
 some_names_when : (o : Option Lexeme) (ts : Items) (ns : List AstName) (u : Items) → r.some_names_by o ts ≡ read_of ns u → Maybe (Commas Named) ns ts u
 unfolding r.comma_name
-some_names_when (Some (lex.Name n)) ts ns u e = just ns ts u (commas_sound Named r.name name_sound comma_name-one ts ns u e)
+some_names_when (Some (lex.Name n)) ts ns u e = just ns ts u (commas_sound Named words.name name_sound comma_name-one ts ns u e)
 some_names_when w ts ns u e = absent (Commas Named) ts ns u e
 
 some_names_sound : Sound (Maybe (Commas Named)) r.some_names
@@ -48,9 +51,9 @@ some_names_sound ts ns u e = some_names_when (head_word ts) ts ns u e
 key_col_sound : Sound KeyCol r.key_col
 unfolding r.key_col
 key_col_sound ts x u e =
-    let a = bind_ok (r.name ts) (λ n. sign Colon >>= λ at. r.key_type >>= λ t. give (record { name = n; ty = t })) (x, u) e in
-    let b = bind_ok (sign Colon a.1) (λ at. r.key_type >>= λ t. give (record { name = a.0; ty = t })) (x, u) a.3 in
-    let c = bind_ok (r.key_type b.1) (λ t. give (record { name = a.0; ty = t })) (x, u) b.3 in
+    let a = bind_ok (words.name ts) (λ n. sign Colon >>= λ at. words.key_type >>= λ t. give (record { name = n; ty = t })) (x, u) e in
+    let b = bind_ok (sign Colon a.1) (λ at. words.key_type >>= λ t. give (record { name = a.0; ty = t })) (x, u) a.3 in
+    let c = bind_ok (words.key_type b.1) (λ t. give (record { name = a.0; ty = t })) (x, u) b.3 in
     give_to (λ y q. KeyCol y ts q) (record { name = a.0; ty = c.0 }) c.1 x u c.3 (key_col b.0 a.0 c.0 ts a.1 b.1 c.1 (name_sound ts a.0 a.1 a.2) (sign_sound Colon a.1 b.0 b.1 b.2) (key_type_sound b.1 c.0 c.1 c.2))
 
 some_key_cols_when : (o : Option Lexeme) (ts : Items) (xs : List AstKeyCol) (u : Items) → r.some_key_cols_by o ts ≡ read_of xs u → Maybe (Commas KeyCol) xs ts u
@@ -65,9 +68,9 @@ some_key_cols_sound ts xs u e = some_key_cols_when (head_word ts) ts xs u e
 val_col_sound : Sound ValCol r.val_col
 unfolding r.val_col
 val_col_sound ts x u e =
-    let a = bind_ok (r.name ts) (λ n. sign Colon >>= λ at. r.val_type >>= λ t. give (record { name = n; ty = t })) (x, u) e in
-    let b = bind_ok (sign Colon a.1) (λ at. r.val_type >>= λ t. give (record { name = a.0; ty = t })) (x, u) a.3 in
-    let c = bind_ok (r.val_type b.1) (λ t. give (record { name = a.0; ty = t })) (x, u) b.3 in
+    let a = bind_ok (words.name ts) (λ n. sign Colon >>= λ at. words.val_type >>= λ t. give (record { name = n; ty = t })) (x, u) e in
+    let b = bind_ok (sign Colon a.1) (λ at. words.val_type >>= λ t. give (record { name = a.0; ty = t })) (x, u) a.3 in
+    let c = bind_ok (words.val_type b.1) (λ t. give (record { name = a.0; ty = t })) (x, u) b.3 in
     give_to (λ y q. ValCol y ts q) (record { name = a.0; ty = c.0 }) c.1 x u c.3 (val_col b.0 a.0 c.0 ts a.1 b.1 c.1 (name_sound ts a.0 a.1 a.2) (sign_sound Colon a.1 b.0 b.1 b.2) (val_type_sound b.1 c.0 c.1 c.2))
 
 val_cols_sound : Sound (Commas ValCol) r.val_cols
@@ -96,7 +99,7 @@ table_type_sound ts x u e =
 
 lits_sound : Sound (Commas Lit) r.lits
 unfolding r.lits r.comma_lit
-lits_sound ts xs u e = commas_sound Lit r.lit lit_sound comma_lit-one ts xs u e
+lits_sound ts xs u e = commas_sound Lit words.lit lit_sound comma_lit-one ts xs u e
 
 some_lits_when : (here : Bool) (ts : Items) (xs : List AstLit) (u : Items) → cond here r.lits (give []) ts ≡ read_of xs u → Maybe (Commas Lit) xs ts u
 some_lits_when true ts xs u e = just xs ts u (lits_sound ts xs u e)
@@ -104,7 +107,7 @@ some_lits_when false ts xs u e = absent (Commas Lit) ts xs u e
 
 some_lits_sound : Sound (Maybe (Commas Lit)) r.some_lits
 unfolding r.some_lits
-some_lits_sound ts xs u e = some_lits_when (r.is_literal (head_word ts)) ts xs u e
+some_lits_sound ts xs u e = some_lits_when (words.is_literal (head_word ts)) ts xs u e
 
 entry_sound : Sound Entry r.entry
 unfolding r.entry
@@ -120,7 +123,7 @@ entry_at_some false ts x u e = absurd (none_some ts u x e)
 
 entry_here_some : (o : Option Lexeme) (ts : Items) (x : AstEntry) (u : Items) → r.entry_here_by o ts ≡ read_of (Some x) u → Entry x ts u
 entry_here_some (Some (lex.Sign Colon)) ts x u e = entry_sound ts x u (read_some (r.entry ts) x u e)
-entry_here_some w ts x u e = entry_at_some (r.is_literal w) ts x u e
+entry_here_some w ts x u e = entry_at_some (words.is_literal w) ts x u e
 
 entry_here_sound : (ts : Items) (x : AstEntry) (u : Items) → r.entry_here ts ≡ read_of (Some x) u → Entry x ts u
 unfolding r.entry_here
@@ -132,7 +135,7 @@ entry_at_none false ts u e = rest_is {A = Option AstEntry} None ts None u e
 
 entry_none_by : (o : Option Lexeme) (ts : Items) (u : Items) → r.entry_here_by o ts ≡ read_of None u → ts ≡ u
 entry_none_by (Some (lex.Sign Colon)) ts u e = absurd (some_none (r.entry ts) u e)
-entry_none_by w ts u e = entry_at_none (r.is_literal w) ts u e
+entry_none_by w ts u e = entry_at_none (words.is_literal w) ts u e
 
 entry_here_none : (ts : Items) (u : Items) → r.entry_here ts ≡ read_of None u → ts ≡ u
 unfolding r.entry_here
@@ -173,9 +176,9 @@ some_entries_sound ts es u e = let h = bind_ok (r.entry_here ts) r.entries_from 
 pair_sound : Sound Pair r.pair
 unfolding r.pair
 pair_sound ts x u e =
-    let a = bind_ok (r.name ts) (λ n. r.keyword key.To >>= λ at. r.name >>= λ m. give (record { old = n; new = m })) (x, u) e in
-    let b = bind_ok (r.keyword key.To a.1) (λ at. r.name >>= λ m. give (record { old = a.0; new = m })) (x, u) a.3 in
-    let c = bind_ok (r.name b.1) (λ m. give (record { old = a.0; new = m })) (x, u) b.3 in
+    let a = bind_ok (words.name ts) (λ n. words.keyword key.To >>= λ at. words.name >>= λ m. give (record { old = n; new = m })) (x, u) e in
+    let b = bind_ok (words.keyword key.To a.1) (λ at. words.name >>= λ m. give (record { old = a.0; new = m })) (x, u) a.3 in
+    let c = bind_ok (words.name b.1) (λ m. give (record { old = a.0; new = m })) (x, u) b.3 in
     give_to (λ y q. Pair y ts q) (record { old = a.0; new = c.0 }) c.1 x u c.3 (pair b.0 a.0 c.0 ts a.1 b.1 c.1 (name_sound ts a.0 a.1 a.2) (keyword_sound key.To a.1 b.0 b.1 b.2) (name_sound b.1 c.0 c.1 c.2))
 
 pairs_sound : Sound (Commas Pair) r.pairs
@@ -186,11 +189,11 @@ pairs_sound ts xs u e = commas_sound Pair r.pair pair_sound comma_pair-one ts xs
 
 leaf_when : (o : Option Lexeme) (ts : Items) (x : AstNode) (u : Items) → head_word ts ≡ o → r.leaf_by o ts ≡ read_of x u → Leaf x ts u
 leaf_when (Some (lex.Name n)) ts x u h e =
-    let a = bind_ok (r.name ts) (λ y. give (node y.at (op.Named y))) (x, u) e in
+    let a = bind_ok (words.name ts) (λ y. give (node y.at (op.Named y))) (x, u) e in
     give_to (λ y q. Leaf y ts q) (node a.0.at (op.Named a.0)) a.1 x u a.3 (named a.0 ts a.1 (name_sound ts a.0 a.1 a.2))
 leaf_when (Some (lex.Key key.Load)) ts x u h e =
-    let a = bind_ok (skip ts) (λ at. r.name >>= λ y. give (node at (op.Load y))) (x, u) e in
-    let b = bind_ok (r.name a.1) (λ y. give (node a.0 (op.Load y))) (x, u) a.3 in
+    let a = bind_ok (skip ts) (λ at. words.name >>= λ y. give (node at (op.Load y))) (x, u) e in
+    let b = bind_ok (words.name a.1) (λ y. give (node a.0 (op.Load y))) (x, u) a.3 in
     give_to (λ y q. Leaf y ts q) (node a.0 (op.Load b.0)) b.1 x u b.3 (load a.0 b.0 ts a.1 b.1 (word_taken (lex.Key key.Load) ts a.0 a.1 h a.2) (name_sound a.1 b.0 b.1 b.2))
 leaf_when (Some (lex.Key key.Table)) ts x u h e =
     let a = bind_ok (skip ts) (λ at. r.table_type >>= λ ty. sign OpenBrace >>= λ from. r.some_entries >>= λ es. sign CloseBrace >>= λ end. give (node at (op.Literal ty es))) (x, u) e in
@@ -271,7 +274,7 @@ one_sound limit d k rest makes os taken le ts x u h e =
 
 agg_makes : (limit : Count) (d : ℕ) → MakesOne limit d key.Agg r.agg_rest
 agg_makes limit d taken at a t1 t2 t3 w first x u e =
-    let g = bind_ok (r.keyword key.By t3) (λ by. r.some_names >>= λ ns. give (node at (op.Agg a.0 ns), a.1)) (x, u) e in
+    let g = bind_ok (words.keyword key.By t3) (λ by. r.some_names >>= λ ns. give (node at (op.Agg a.0 ns), a.1)) (x, u) e in
     let l = bind_ok (r.some_names g.1) (λ ns. give (node at (op.Agg a.0 ns), a.1)) (x, u) g.3 in
     give_to (λ y q. Counts (Table d) limit taken y t1 q) (node at (op.Agg a.0 l.0), a.1) l.1 x u l.3
     (record { n = one_operator first.n; total = (omega (arith, first.total.0), omega (arith, first.total.1)); within = first.within; stands = agg d first.n at g.0 a.0 l.0 t1 t2 t3 g.1 l.1 w first.stands (keyword_sound key.By t3 g.0 g.1 g.2) (some_names_sound g.1 l.0 l.1 l.2) })
@@ -326,7 +329,7 @@ some_order_sound ts x u e = some_order_when (head_word ts) ts x u refl e
 
 statement_when : (limits : Limits) (o : Option Lexeme) (ts : Items) (x : AstStatement) (u : Items) → head_word ts ≡ o → r.statement_by limits o ts ≡ read_of x u → Statement limits x ts u
 statement_when limits (Some (lex.Name n)) ts x u h e =
-    let a = bind_ok (r.name ts) (assign_rest limits) (x, u) e in
+    let a = bind_ok (words.name ts) (assign_rest limits) (x, u) e in
     let b = bind_ok (sign Is a.1) (λ is. r.table limits.counted limits.levels none_counted >>= λ t. sign Semi >>= λ end. give (st.Assign a.0.at a.0 t.0)) (x, u) a.3 in
     let c = bind_ok (r.table limits.counted limits.levels none_counted b.1) (λ t. sign Semi >>= λ end. give (st.Assign a.0.at a.0 t.0)) (x, u) b.3 in
     let t = c.0 in
@@ -336,7 +339,7 @@ statement_when limits (Some (lex.Name n)) ts x u h e =
     (assign b.0 d.0 s.n a.0 t.0 ts a.1 b.1 c.1 d.1 (name_sound ts a.0 a.1 a.2) (sign_sound Is a.1 b.0 b.1 b.2) s.stands (omega (arith, s.total.0, s.within.0), omega (arith, s.total.1, s.within.1)) (sign_sound Semi c.1 d.0 d.1 d.2))
 statement_when limits (Some (lex.Key key.Print)) ts x u h e =
     let a = bind_ok (skip ts) print_rest (x, u) e in
-    let b = bind_ok (r.name a.1) (λ n. r.some_order >>= λ by. sign Semi >>= λ end. give (st.Print a.0 n by)) (x, u) a.3 in
+    let b = bind_ok (words.name a.1) (λ n. r.some_order >>= λ by. sign Semi >>= λ end. give (st.Print a.0 n by)) (x, u) a.3 in
     let c = bind_ok (r.some_order b.1) (λ by. sign Semi >>= λ end. give (st.Print a.0 b.0 by)) (x, u) b.3 in
     let d = bind_ok (sign Semi c.1) (λ end. give (st.Print a.0 b.0 c.0)) (x, u) c.3 in
     give_to (λ y q. Statement limits y ts q) (st.Print a.0 b.0 c.0) d.1 x u d.3

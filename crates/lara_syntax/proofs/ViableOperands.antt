@@ -12,8 +12,10 @@ use Rattle.lara_syntax.specs.declared.count.Count.{Count}
 use Rattle.lara_syntax.specs.Limits.{one_operator}
 use Rattle.lara_syntax.specs.Steps.{Reader, ◌>>=◌, give, refuse, skip, head_word}
 use Rattle.lara_syntax.specs.Reading as r
+use Rattle.lara_syntax.specs.WordReading as words
 use Rattle.lara_syntax.specs.Places.{node}
-use Rattle.lara_syntax.specs.Reading.{sign, Counted}
+use Rattle.lara_syntax.specs.Reading.{Counted}
+use Rattle.lara_syntax.specs.WordReading.{sign}
 use Rattle.lara_syntax.proofs.Levels.{inside_rest}
 use Rattle.lara_syntax.proofs.Turns.{rest_is, err_ok}
 use Rattle.lara_syntax.proofs.Readers.{IsReader, reads_bind, reads_give, skip_shortens}
@@ -71,7 +73,7 @@ operand_cases limit levels ic F taken (Some (lex.Sign Open)) = ic F taken
 operand_cases limit levels ic F taken w = case_viable F _ (counted_viable F taken)
 
 operand_from : (limit : Count) (levels : ℕ) → InsideCase limit levels → (F : Option Lexeme → Type 0) (taken : Count) → IsViable F (r.operand limit levels taken)
-unfolding r.operand r.leaf r.name
+unfolding r.operand r.leaf words.name
 operand_from limit levels ic F taken = viable_choice F (r.operand_by (r.inside limit levels) taken) (operand_cases limit levels ic F taken) (quiet_takes F (r.operand limit levels taken) (operand_takes limit levels taken)) (token (lex.Name a_name) ∷ []) (name_spelled, tt) (a_node, taken) (λ v after. refl)
 
 -- ---- tables
@@ -97,7 +99,7 @@ one_viable limit levels ic rest reads viable taken at =
 
 agg_rest_viable : RestViable r.agg_rest
 agg_rest_viable at a =
-    viable_bind AfterTable any (r.keyword key.By) (λ by. r.some_names >>= λ ns. give (node at (op.Agg a.0 ns), a.1)) (keyword-reads key.By) (λ by. reads_bind r.some_names _ some_names-reads (λ ns. reads_give _)) (keyword_viable any key.By)
+    viable_bind AfterTable any (words.keyword key.By) (λ by. r.some_names >>= λ ns. give (node at (op.Agg a.0 ns), a.1)) (keyword-reads key.By) (λ by. reads_bind r.some_names _ some_names-reads (λ ns. reads_give _)) (keyword_viable any key.By)
     (λ by. viable_bind AfterTable AfterNames r.some_names (λ ns. give (node at (op.Agg a.0 ns), a.1)) some_names-reads (λ ns. reads_give _) some_names_viable (λ ns. viable_give AfterTable _) (λ ns ts y v e f. table_names (head_word ts) (same_end AfterTable _ ts y v e f)))
     (λ by ts y v e f. tt)
 
@@ -130,7 +132,7 @@ unfolding r.table
 table_takes limit levels taken ts x u e = table_by_takes limit levels taken (head_word ts) ts x u e
 
 table_from : (limit : Count) (levels : ℕ) → InsideCase limit levels → (taken : Count) → IsViable AfterTable (r.table limit levels taken)
-unfolding r.table r.operand r.leaf r.name
+unfolding r.table r.operand r.leaf words.name
 table_from limit levels ic taken = viable_choice AfterTable (r.table_by limit (r.operand limit levels) taken) (table_cases limit levels ic taken) (quiet_takes AfterTable (r.table limit levels taken) (table_takes limit levels taken)) (token (lex.Name a_name) ∷ []) (name_spelled, tt) (a_node, taken) (λ v after. refl)
 
 inside_rest_viable : (limit : Count) (levels : ℕ) → InsideCase limit levels → (F : Option Lexeme → Type 0) (taken : Count) (at : ℕ) → IsViable F (inside_rest limit levels taken at)

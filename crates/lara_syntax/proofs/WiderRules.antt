@@ -20,8 +20,10 @@ use Rattle.lara_syntax.specs.Limits.{Limits, none_counted, one_operator, IsWithi
 use Rattle.lara_syntax.specs.declared.count.Count.{Count}
 use Rattle.lara_syntax.specs.Steps.{Items, Read, Reader, onward, ◌>>=◌, give, refuse, skip, head_word}
 use Rattle.lara_syntax.specs.Reading as r
+use Rattle.lara_syntax.specs.WordReading as words
 use Rattle.lara_syntax.specs.Places.{node}
-use Rattle.lara_syntax.specs.Reading.{sign, Counted}
+use Rattle.lara_syntax.specs.Reading.{Counted}
+use Rattle.lara_syntax.specs.WordReading.{sign}
 use Rattle.lara_syntax.proofs.Levels.{inside_rest}
 use Rattle.lara_syntax.proofs.Turns.{read_of, erred}
 use Rattle.lara_syntax.proofs.Readers.{IsReader, reads_bind, reads_give}
@@ -72,7 +74,7 @@ agg_names-reads at a = reads_bind r.some_names _ some_names-reads (λ ns. reads_
 
 agg_rest_widens : (limit : Count) → RestWidens limit r.agg_rest r.agg_rest
 agg_rest_widens limit at a ha =
-    widens_bind always (Within limit) (r.keyword key.By) (r.keyword key.By) (λ by. r.some_names >>= λ ns. give (node at (op.Agg a.0 ns), a.1)) (λ by. r.some_names >>= λ ns. give (node at (op.Agg a.0 ns), a.1)) (widens_plain (r.keyword key.By) (keyword-plain key.By))
+    widens_bind always (Within limit) (words.keyword key.By) (words.keyword key.By) (λ by. r.some_names >>= λ ns. give (node at (op.Agg a.0 ns), a.1)) (λ by. r.some_names >>= λ ns. give (node at (op.Agg a.0 ns), a.1)) (widens_plain (words.keyword key.By) (keyword-plain key.By))
     (λ by hb. rest_widens limit r.some_names (λ ns. (node at (op.Agg a.0 ns), a.1)) some_names-plain (λ ns. ha)) (λ by. agg_names-reads at a)
 
 rename_rest_widens : (limit : Count) → RestWidens limit r.rename_rest r.rename_rest
@@ -134,7 +136,7 @@ assign_widens a b less x =
     (λ is. reads_bind (r.table b.counted b.levels none_counted) (assign_end x) (table-reads b.counted b.levels none_counted) (assign_end-reads x))
 
 statement_by_widens : (a b : Limits) → Less a b → (w : Option Lexeme) → Widens always (r.statement_by a w) (r.statement_by b w)
-statement_by_widens a b less (Some (lex.Name n)) = widens_bind always always r.name r.name (assign_rest a) (assign_rest b) (widens_plain r.name name-plain) (λ x h. assign_widens a b less x) (assign_rest-reads b)
+statement_by_widens a b less (Some (lex.Name n)) = widens_bind always always words.name words.name (assign_rest a) (assign_rest b) (widens_plain words.name name-plain) (λ x h. assign_widens a b less x) (assign_rest-reads b)
 statement_by_widens a b less (Some (lex.Key key.Print)) = widens_plain (skip >>= print_rest) (plain_bind skip print_rest plain_skip print_rest-plain)
 statement_by_widens a b less w = widens_plain (refuse Unexpected) plain_refuse
 
@@ -144,12 +146,12 @@ statement_widens a b less ts = statement_by_widens a b less (head_word ts) ts
 
 -- a word of a statement's begin is read
 name_begins : (limits : Limits) (n : List ℕ) (t : Item) (us : Items) → t.lexeme ≡ lex.Name n → Past (suc (length us)) (r.statement limits (t ∷ us))
-unfolding r.statement r.name
+unfolding r.statement words.name
 name_begins limits n t us e =
     let x : AstName = record { name = n; at = t.at } in
     let next = ap (λ (l : Lexeme). Some l) e in
-    let named : r.name (t ∷ us) ≡ read_of x us = chosen r.name_by (t ∷ us) (Some (lex.Name n)) (read_of x us) next refl in
-    let read : r.statement limits (t ∷ us) ≡ assign_rest limits x us = chosen (r.statement_by limits) (t ∷ us) (Some (lex.Name n)) (assign_rest limits x us) next (step r.name (assign_rest limits) (t ∷ us) x us (assign_rest limits x us) named refl) in
+    let named : words.name (t ∷ us) ≡ read_of x us = chosen words.name_by (t ∷ us) (Some (lex.Name n)) (read_of x us) next refl in
+    let read : r.statement limits (t ∷ us) ≡ assign_rest limits x us = chosen (r.statement_by limits) (t ∷ us) (Some (lex.Name n)) (assign_rest limits x us) next (step words.name (assign_rest limits) (t ∷ us) x us (assign_rest limits x us) named refl) in
     subst (λ (q : Read AstStatement). Past (suc (length us)) q) (sym read) (past_read (assign_rest limits x) (assign_rest-reads limits x) (suc (length us)) us (omega arith) (assign_rest limits x us) refl)
 
 print_begins : (limits : Limits) (t : Item) (us : Items) → t.lexeme ≡ lex.Key key.Print → Past (suc (length us)) (r.statement limits (t ∷ us))

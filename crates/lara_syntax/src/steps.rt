@@ -2,7 +2,7 @@
 ghost use Rattle.std.specs.Prelude.{◌≡◌, ◌∷◌, ◌+◌, ◌≤◌, ◌<◌, [], MatchOption, length, IfOk};
 ghost use Rattle.lara_syntax.specs.Returns.{Returns};
 ghost use Rattle.lara_syntax.specs.Steps.{Gives};
-ghost use Rattle.lara_syntax.specs.Reading.{sign, keyword, name};
+ghost use Rattle.lara_syntax.specs.WordReading.{sign, keyword, name};
 
 use crate::ast::AstName;
 use crate::fault::{Fault, Stop};
@@ -32,7 +32,7 @@ pub fn stopped(items: &[Item], kind: Kind) -> Stop
 }
 
 /// A sign, at its place.
-#[tactic(auto, unfolding(crate::specs::Reading::sign))]
+#[tactic(auto, unfolding(crate::specs::WordReading::sign))]
 pub fn sign(items: &[Item], wanted: Sign) -> Result<(u32, &[Item]), Stop>
     ensures { Returns (λ x. (x.0, x.1.now)) result (sign wanted items.now) }
 {
@@ -52,7 +52,7 @@ pub fn sign(items: &[Item], wanted: Sign) -> Result<(u32, &[Item]), Stop>
 }
 
 /// A keyword, at its place.
-#[tactic(auto, unfolding(crate::specs::Reading::keyword))]
+#[tactic(auto, unfolding(crate::specs::WordReading::keyword))]
 pub fn keyword(items: &[Item], wanted: Keyword) -> Result<(u32, &[Item]), Stop>
     ensures { Returns (λ x. (x.0, x.1.now)) result (keyword wanted items.now) }
 {
@@ -72,7 +72,7 @@ pub fn keyword(items: &[Item], wanted: Keyword) -> Result<(u32, &[Item]), Stop>
 }
 
 /// A name.
-#[tactic(auto, unfolding(crate::specs::Reading::name))]
+#[tactic(auto, unfolding(crate::specs::WordReading::name))]
 pub fn name(alloc: Global, items: &[Item]) -> Result<(AstName, &[Item]), Fault>
     ensures { Gives (λ x. (x.0, x.1.now)) result (name items.now) }
 {
