@@ -17,7 +17,7 @@ use Rattle.lara_syntax.specs.FixedWords.{same_keyword, same_sign}
 use Rattle.lara_syntax.specs.WordReading.{sign, sign_by}
 use Rattle.lara_syntax.proofs.Turns.{TakesOne, erred, list-some, list-none, list-fail}
 use Rattle.lara_syntax.proofs.Readers.{bind_err, ok_err, stop_is}
-use Rattle.lara_syntax.proofs.RuleReaders.{comma_name-one, comma_key_col-one, comma_val_col-one, comma_lit-one, semi_entry-one, comma_pair-one, print_rest}
+use Rattle.lara_syntax.proofs.RuleReaders.{comma_name-one, comma_key_col-one, comma_val_col-one, comma_lit-one, semi_entry-one, comma_pair-one}
 
 abbrev pub Plain : {A : Type 0} → Reader A → Type 0
 Plain {A = A} p = (ts : Items) (d : Stop) → p ts ≡ erred d → d.kind ≡ Unexpected
@@ -209,6 +209,3 @@ some_order_by-plain w = plain_give None
 pub some_order-plain : Plain r.some_order
 unfolding r.some_order
 some_order-plain = plain_choice r.some_order_by some_order_by-plain
-
-pub print_rest-plain : (at : ℕ) → Plain (print_rest at)
-print_rest-plain at = plain_bind words.name _ name-plain (λ x. plain_bind r.some_order _ some_order-plain (λ by. plain_bind (sign Semi) _ (sign-plain Semi) (λ b. plain_give _)))

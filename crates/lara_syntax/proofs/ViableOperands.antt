@@ -19,7 +19,8 @@ use Rattle.lara_syntax.specs.WordReading.{sign}
 use Rattle.lara_syntax.proofs.Levels.{inside_rest}
 use Rattle.lara_syntax.proofs.Turns.{rest_is, err_ok}
 use Rattle.lara_syntax.proofs.Readers.{IsReader, reads_bind, reads_give, skip_shortens}
-use Rattle.lara_syntax.proofs.RuleReaders.{sign-reads, some_names-reads, pairs-reads, leaf-reads, counted, keyword-reads, two_by-reads, RestReads, one_by-reads, agg_rest-reads, rename_rest-reads, inside_rest-reads, operand-reads, table-reads}
+use Rattle.lara_syntax.proofs.RuleReaders.{sign-reads, some_names-reads, pairs-reads, leaf-reads, keyword-reads}
+use Rattle.lara_syntax.proofs.TableReaders.{counted, two_by-reads, RestReads, one_by-reads, agg_rest-reads, rename_rest-reads, inside_rest-reads, operand-reads, table-reads}
 use Rattle.lara_syntax.proofs.Complete.{AfterNames, AfterTable, table_names, table_comma}
 use Rattle.lara_syntax.proofs.Viable.{IsViable, IsCase, Starts, case_viable, case_refuse, viable_bind, viable_give, viable_choice}
 use Rattle.lara_syntax.proofs.ViableWords.{name_spelled, a_name, any, token, skip_takes, keyword_viable, viable_behind, Takes, quiet_takes, first_takes, sign_viable, sign_starts}

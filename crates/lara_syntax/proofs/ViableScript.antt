@@ -16,7 +16,8 @@ use Rattle.lara_syntax.specs.WordReading as words
 use Rattle.lara_syntax.specs.WordReading.{sign}
 use Rattle.lara_syntax.proofs.Turns.{TakesOne, read_of, rest_is, err_ok, none_some}
 use Rattle.lara_syntax.proofs.Readers.{IsReader, reads_bind, reads_give, skip_shortens}
-use Rattle.lara_syntax.proofs.RuleReaders.{sign-reads, name-reads, some_names-reads, table-reads, some_order-reads, statement-reads, statement-one, assign_end, assign_end-reads, assign_rest, assign_rest-reads, print_rest, print_rest-reads, next_statement-one, has_room, next_behind, next_behind-one, next_behind-reads, statements-reads, tree_given, tree_given-reads}
+use Rattle.lara_syntax.proofs.RuleReaders.{sign-reads, name-reads, some_names-reads}
+use Rattle.lara_syntax.proofs.TableReaders.{table-reads, some_order-reads, statement-reads, statement-one, assign_end, assign_end-reads, assign_rest, assign_rest-reads, print_rest, print_rest-reads, next_statement-one, has_room, next_behind, next_behind-one, next_behind-reads, statements-reads, tree_given, tree_given-reads}
 use Rattle.lara_syntax.proofs.Complete.{AfterNames, AfterTable}
 use Rattle.lara_syntax.proofs.Viable.{IsViable, IsCase, case_viable, case_refuse, viable_bind, viable_give, viable_choice}
 use Rattle.lara_syntax.proofs.ViableLoop.{Keeps, IsItem, viable_list, keeps_viable, keeps_none, keeps_choice, viable_item}

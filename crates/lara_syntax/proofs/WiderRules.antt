@@ -27,9 +27,10 @@ use Rattle.lara_syntax.specs.WordReading.{sign}
 use Rattle.lara_syntax.proofs.Levels.{inside_rest}
 use Rattle.lara_syntax.proofs.Turns.{read_of, erred}
 use Rattle.lara_syntax.proofs.Readers.{IsReader, reads_bind, reads_give}
-use Rattle.lara_syntax.proofs.RuleReaders.{AreReaders, sign-reads, some_names-reads, counted, two_by-reads, RestReads, one_by-reads, agg_rest-reads, rename_rest-reads, inside_rest-reads, operand-reads, table-reads, assign_end, assign_end-reads, assign_rest, assign_rest-reads, print_rest, print_rest-reads, has_room, next_behind, next_behind-one, statements-reads, tree_given, tree_given-reads, statements-some, statements-none, statements-fail}
+use Rattle.lara_syntax.proofs.RuleReaders.{sign-reads, some_names-reads}
+use Rattle.lara_syntax.proofs.TableReaders.{AreReaders, counted, two_by-reads, RestReads, one_by-reads, agg_rest-reads, rename_rest-reads, inside_rest-reads, operand-reads, table-reads, assign_end, assign_end-reads, assign_rest, assign_rest-reads, print_rest, print_rest-reads, has_room, next_behind, next_behind-one, statements-reads, tree_given, tree_given-reads, statements-some, statements-none, statements-fail}
 use Rattle.lara_syntax.proofs.Complete.{chosen, step}
-use Rattle.lara_syntax.proofs.PlainRules.{Plain, plain_bind, plain_give, plain_skip, plain_refuse, sign-plain, name-plain, some_names-plain, leaf-plain, keyword-plain, pairs-plain, print_rest-plain}
+use Rattle.lara_syntax.proofs.PlainRules.{Plain, plain_bind, plain_give, plain_skip, plain_refuse, sign-plain, name-plain, some_names-plain, leaf-plain, keyword-plain, pairs-plain, some_order-plain}
 use Rattle.lara_syntax.proofs.Room.{room_left}
 use Rattle.lara_syntax.proofs.Wider.{Less, LessCount, Fits, Past, Wider, Widens, always, past_read, past_onward, wider_onward, widens_bind, widens_give, widens_plain, wider_of}
 
@@ -127,6 +128,9 @@ table_widens : (limit more : Count) (levels deeper : ℕ) → LessCount limit mo
 table_widens limit more levels deeper lt deep = table_from limit more levels deeper lt (inside_widens limit more levels deeper lt deep)
 
 -- ---- statements
+
+print_rest-plain : (at : ℕ) → Plain (print_rest at)
+print_rest-plain at = plain_bind words.name _ name-plain (λ x. plain_bind r.some_order _ some_order-plain (λ by. plain_bind (sign Semi) _ (sign-plain Semi) (λ b. plain_give _)))
 
 assign_widens : (a b : Limits) → Less a b → (x : AstName) → Widens always (assign_rest a x) (assign_rest b x)
 assign_widens a b less x =
