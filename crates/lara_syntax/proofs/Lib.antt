@@ -39,6 +39,7 @@ pub mod WiderRules
 pub mod WordLaws
 pub mod WordReads
 pub mod WordTextLaws
+pub mod WorkedExprs
 pub mod WorkedLimits
 pub mod WorkedLiterals
 pub mod WorkedScripts
