@@ -15,7 +15,7 @@ use Rattle.lara_syntax.specs.declared.ast_expr.AstForm.TheVariants as form
 use Rattle.lara_syntax.specs.Limits.{most, none_counted}
 use Rattle.lara_syntax.specs.ExprGrammar.{expr_at, two_at}
 use Rattle.lara_syntax.specs.ExprReading.{expr, disjunction, negation, comparison, atom, deeper_expr, operator_sign, opening, then_word, else_word}
-use Rattle.lara_syntax.specs.Reading.{name, lit, sign}
+use Rattle.lara_syntax.specs.WordReading.{name, lit, sign}
 use Rattle.lara_syntax.specs.Steps.{Items, turns, turns_within}
 use Rattle.lara_syntax.proofs.Turns.{read_of, erred}
 

@@ -14,7 +14,7 @@ use Rattle.lara_syntax.specs.declared.ast_expr.AstExpr.{AstExpr}
 use Rattle.lara_syntax.specs.declared.ast_expr.AstForm.TheVariants as form
 use Rattle.lara_syntax.specs.ExprGrammar.{expr_at, two_at, literal_form}
 use Rattle.lara_syntax.specs.Limits.{one_sign}
-use Rattle.lara_syntax.specs.Reading.{sign, name, lit, next_as}
+use Rattle.lara_syntax.specs.WordReading.{sign, name, lit, next_as}
 use Rattle.lara_syntax.specs.Steps.{Reader, ◌>>=◌, give, refuse, peek, skip, turns}
 
 -- an expression, and what was counted in the statement up to its end
