@@ -2,6 +2,8 @@ pub mod Blanks
 pub mod Complete
 pub mod CompleteTables
 pub mod Counts
+pub mod ExprLoops
+pub mod ExprReaders
 pub mod Gather
 pub mod ItemLaws
 pub mod Levels

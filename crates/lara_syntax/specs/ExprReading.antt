@@ -69,43 +69,40 @@ next_two tightly w = only_binding tightly (next_as two_of w)
 unfoldable pub operator_sign : Count → Count → Reader ℕ
 operator_sign limit taken = if nat_lt taken.signs limit.signs then skip else refuse TooMany
 
--- a part behind an operator at its place, and the part before it
-abbrev pub right_of : ExprReader → CountedExpr → TwoOp → ℕ → Reader (Option CountedExpr)
-right_of part left op at = do
+-- an operator and the part behind it, at the right of another
+abbrev pub joined : Count → ExprReader → CountedExpr → TwoOp → Reader CountedExpr
+joined limit part left op = do
+  at ← operator_sign limit left.1
   right ← part (one_sign left.1)
-  give (Some (two_at at op left.0 right.0, right.1))
+  give (two_at at op left.0 right.0, right.1)
 
 -- [ op part ] behind a part, by the operator that is next
 abbrev pub operated_by : Count → ExprReader → CountedExpr → Option TwoOp → Reader (Option CountedExpr)
 operated_by limit part left None = give None
-operated_by limit part left (Some op) = operator_sign limit left.1 >>= right_of part left op
-
--- [ op part ] behind a part, where op binds so tightly, by the word that is next
-abbrev pub operated_if : ℕ → Count → ExprReader → CountedExpr → Option Lexeme → Reader (Option CountedExpr)
-operated_if tightly limit part left w = operated_by limit part left (next_two tightly w)
+operated_by limit part left (Some op) = do
+  x ← joined limit part left op
+  give (Some x)
 
 -- [ op part ] behind a part, where op binds so tightly
 abbrev pub operated : ℕ → Count → ExprReader → CountedExpr → Reader (Option CountedExpr)
-operated tightly limit part left = peek >>= operated_if tightly limit part left
+operated tightly limit part left = peek >>= λ w. operated_by limit part left (next_two tightly w)
 
 -- part { op part }, grouped to the left
 abbrev pub chain : ℕ → Count → ExprReader → ExprReader
 chain tightly limit part taken = part taken >>= turns (operated tightly limit part)
 
--- the latter, or the former where there is none
-abbrev pub latter : CountedExpr → Option CountedExpr → CountedExpr
-latter left None = left
-latter left (Some x) = x
+-- a part with what is behind it, if an operator is next
+abbrev pub pair_by : Count → ExprReader → CountedExpr → Option TwoOp → Reader CountedExpr
+pair_by limit part left None = give left
+pair_by limit part left (Some op) = joined limit part left op
 
--- the rest of part [ op part ]
-abbrev pub at_most_one : ℕ → Count → ExprReader → CountedExpr → Reader CountedExpr
-at_most_one tightly limit part left = do
-  x ← operated tightly limit part left
-  give (latter left x)
+-- a part with [ op part ] behind it
+abbrev pub paired : ℕ → Count → ExprReader → CountedExpr → Reader CountedExpr
+paired tightly limit part left = peek >>= λ w. pair_by limit part left (next_two tightly w)
 
 -- part [ op part ]
 abbrev pub pair : ℕ → Count → ExprReader → ExprReader
-pair tightly limit part taken = part taken >>= at_most_one tightly limit part
+pair tightly limit part taken = part taken >>= paired tightly limit part
 
 -- ---- words that open a level
 
@@ -131,6 +128,14 @@ brackets_rest inner taken at = do
   end ← sign mark.Close
   give x
 
+-- FUNC "(" expr ")", where inner reads an expression one level deeper
+abbrev pub call : FunOp → ℕ → ExprReader → ExprReader
+call f levels inner taken = opening levels >>= call_rest f inner taken
+
+-- "(" expr ")", likewise
+abbrev pub brackets : ℕ → ExprReader → ExprReader
+brackets levels inner taken = opening levels >>= brackets_rest inner taken
+
 -- the function that a word is
 abbrev pub fun_of : Lexeme → Option FunOp
 fun_of (lex.Key key.Num) = Some fun.Num
@@ -142,7 +147,7 @@ fun_of w = None
 
 -- a function's call, or a literal without a function
 abbrev pub call_by : ℕ → ExprReader → Count → Option FunOp → Reader CountedExpr
-call_by levels inner taken (Some f) = opening levels >>= call_rest f inner taken
+call_by levels inner taken (Some f) = call f levels inner taken
 call_by levels inner taken None = do
   x ← lit
   give (expr_at x.at (literal_form x.value), taken)
@@ -152,7 +157,7 @@ abbrev pub atom_by : ℕ → ExprReader → Count → Option Lexeme → Reader C
 atom_by levels inner taken (Some (lex.Name n)) = do
   x ← name
   give (expr_at x.at (form.Column x.name), taken)
-atom_by levels inner taken (Some (lex.Sign mark.Open)) = opening levels >>= brackets_rest inner taken
+atom_by levels inner taken (Some (lex.Sign mark.Open)) = brackets levels inner taken
 atom_by levels inner taken w = call_by levels inner taken (next_as fun_of w)
 
 -- atom, where inner reads an expression one level deeper
@@ -185,9 +190,13 @@ negated_rest operand taken at = do
   x ← operand taken
   give (expr_at at (form.Not x.0), x.1)
 
+-- "not" not, where operand reads one a level deeper
+abbrev pub negated : ℕ → ExprReader → ExprReader
+negated levels operand taken = opening levels >>= negated_rest operand taken
+
 -- not, by the word that is next
 abbrev pub negation_by : ℕ → ExprReader → ExprReader → Count → Option Lexeme → Reader CountedExpr
-negation_by levels operand comparison taken (Some (lex.Key key.Not)) = opening levels >>= negated_rest operand taken
+negation_by levels operand comparison taken (Some (lex.Key key.Not)) = negated levels operand taken
 negation_by levels operand comparison taken w = comparison taken
 
 -- not, where operand reads one a level deeper
@@ -232,9 +241,13 @@ branches_rest inner taken at = do
   y ← inner x.1
   give (expr_at at (form.If c.0 x.0 y.0), y.1)
 
+-- "if" expr "then" expr "else" expr, where inner reads an expression one level deeper
+abbrev pub branches : ℕ → ExprReader → ExprReader
+branches levels inner taken = opening levels >>= branches_rest inner taken
+
 -- expr, by the word that is next
 abbrev pub expr_by : ℕ → ExprReader → ExprReader → Count → Option Lexeme → Reader CountedExpr
-expr_by levels inner disjunction taken (Some (lex.Key key.If)) = opening levels >>= branches_rest inner taken
+expr_by levels inner disjunction taken (Some (lex.Key key.If)) = branches levels inner taken
 expr_by levels inner disjunction taken w = disjunction taken
 
 -- expr, where inner reads one a level deeper
@@ -270,6 +283,15 @@ negation limit levels taken = negation_with levels (deeper_not limit levels) (co
 -- or
 unfoldable pub disjunction : Count → ℕ → ExprReader
 disjunction limit levels taken = disjunction_with limit (negation limit levels) taken
+
+-- what stands between operators that bind so tightly
+unfoldable pub part : Count → ℕ → ℕ → ExprReader
+part limit levels zero taken = conjunction_with limit (negation limit levels) taken
+part limit levels (suc zero) taken = negation limit levels taken
+part limit levels (suc (suc zero)) taken = cat_with limit (atom limit levels) taken
+part limit levels (suc (suc (suc zero))) taken = sum_with limit (atom limit levels) taken
+part limit levels (suc (suc (suc (suc zero)))) taken = product_with limit (atom limit levels) taken
+part limit levels tightly taken = atom limit levels taken
 
 -- an expression
 unfoldable pub expr : Count → ℕ → ExprReader

@@ -1,6 +1,8 @@
 //! The rules of the grammar, each as it is read from left to right.
 pub mod columns;
 pub mod entries;
+pub mod expr_words;
+pub mod exprs;
 pub mod leaves;
 pub mod names;
 pub mod pairs;

@@ -41,9 +41,9 @@ fn is_literal(lexeme: &Lexeme) -> bool
     }
 }
 
-// lit, one word
+/// lit, one word
 #[tactic(auto, unfolding(crate::specs::WordReading::lit))]
-fn lit(alloc: Global, items: &[Item]) -> Result<(AstLit, &[Item]), Fault>
+pub fn lit(alloc: Global, items: &[Item]) -> Result<(AstLit, &[Item]), Fault>
     ensures gives { Gives (λ x. (x.0, x.1.now)) result (lit items.now) }
     ensures exact { HoldNoText items.now → HasMemory result }
 {
