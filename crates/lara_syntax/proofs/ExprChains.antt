@@ -11,11 +11,11 @@ use Rattle.lara_syntax.specs.declared.item.Sign.TheVariants as mark
 use Rattle.lara_syntax.specs.declared.count.Count.{Count}
 use Rattle.lara_syntax.specs.declared.ast_expr.AstExpr.{AstExpr}
 use Rattle.lara_syntax.specs.Limits.{one_sign, together}
-use Rattle.lara_syntax.specs.Grammar.{Word}
+use Rattle.lara_syntax.specs.WordGrammar.{Word}
 use Rattle.lara_syntax.specs.ExprGrammar as g
 use Rattle.lara_syntax.specs.ExprGrammar.{two_at, Comparison, equal, not_equal, less, less_equal, greater, greater_equal, Atom, Prod, Sum, Cat, Cmp, Not, And, Or}
 use Rattle.lara_syntax.specs.ExprReading.{two_of, binding, only_binding, next_two}
-use Rattle.lara_syntax.specs.Reading.{next_as}
+use Rattle.lara_syntax.specs.WordReading.{next_as}
 use Rattle.lara_syntax.specs.Steps.{Items}
 use Rattle.lara_syntax.proofs.SoundWords.{some_is}
 
@@ -221,15 +221,15 @@ compares_or two.Mul = inr (refl, λ e. omega (arith, e))
 
 only_op : (op : TwoOp) (tightly : ℕ) → ((tightly ≡ 2) → ⊥) → binding op ≡ tightly → op ≡ the_only tightly
 only_op op tightly other e = elim (compares_or op) [
-    | inl c ↦ absurd (other (sym e ∙ c.3))
-    | inr o ↦ o.0 ∙ ap the_only e
-  ]
+  | inl c ↦ absurd (other (sym e ∙ c.3))
+  | inr o ↦ o.0 ∙ ap the_only e
+]
 
 compares : (op : TwoOp) → binding op ≡ 2 → Compares op
 compares op e = elim (compares_or op) [
-    | inl c ↦ c
-    | inr o ↦ absurd (o.1 e)
-  ]
+  | inl c ↦ c
+  | inr o ↦ absurd (o.1 e)
+]
 
 -- how a part and another behind an operator make the whole
 abbrev Joins : TwoOp → Part → Part → Type 0

@@ -1,5 +1,5 @@
 -- What is in the grammar of expressions is read, where no operator is behind it.
-use Rattle.std.proofs.Common.{◌≡◌, ℕ, zero, suc, ◌<◌, ◌≤◌, ◌+◌, ◌-◌, [], ◌∷◌, Option, Some, None, Bool, true, false, cond, nat_lt, refl, sym, ap, subst, ◌∙◌, arith}
+use Rattle.std.proofs.Common.{◌≡◌, ℕ, zero, suc, ◌<◌, Option, Some, None, Bool, true, false, cond, refl, sym, ap, subst, ◌∙◌, arith}
 use Rattle.std.proofs.lemmas.Bool.{lt-ltb}
 use Rattle.lara_data.specs.declared.expr.TwoOp.{TwoOp}
 use Rattle.lara_data.specs.declared.expr.FunOp.{FunOp}
@@ -14,20 +14,20 @@ use Rattle.lara_syntax.specs.declared.ast.AstValue.{AstValue}
 use Rattle.lara_syntax.specs.declared.ast.AstValue.TheVariants as val
 use Rattle.lara_syntax.specs.declared.ast_expr.AstExpr.{AstExpr}
 use Rattle.lara_syntax.specs.declared.ast_expr.AstForm.TheVariants as form
-use Rattle.lara_syntax.specs.Limits.{none_counted, one_sign, together, IsWithin}
-use Rattle.lara_syntax.specs.Grammar.{Word, literal_word}
+use Rattle.lara_syntax.specs.Limits.{one_sign, together, IsWithin}
+use Rattle.lara_syntax.specs.WordGrammar.{Word, literal_word}
 use Rattle.lara_syntax.specs.ExprGrammar as g
 use Rattle.lara_syntax.specs.ExprGrammar.{expr_at, two_at, literal_form, fun_word, Atom, Prod, Sum, Cat, Cmp, Not, And, Or, Expr}
 use Rattle.lara_syntax.specs.ExprReading as r
 use Rattle.lara_syntax.specs.ExprReading.{CountedExpr, ExprReader, binding}
-use Rattle.lara_syntax.specs.Reading.{sign, name, lit}
-use Rattle.lara_syntax.specs.Steps.{Items, Read, Reader, ◌>>=◌, give, refuse, skip, turns, head_word}
+use Rattle.lara_syntax.specs.WordReading.{sign, keyword, name, lit}
+use Rattle.lara_syntax.specs.Steps.{Items, Read, ◌>>=◌, give, refuse, skip, turns, head_word}
 use Rattle.lara_syntax.proofs.Counts.{IsSum, sum_none}
 use Rattle.lara_syntax.proofs.Turns.{read_of}
-use Rattle.lara_syntax.proofs.Complete.{head_is, skip_is, step, chosen, sign_reads, name_reads, lit_reads}
-use Rattle.lara_syntax.proofs.ExprReaders.{ReadEach, right_of, atom-reads, negation-reads, product_with-reads, sum_with-reads, cat_with-reads, conjunction_with-reads}
+use Rattle.lara_syntax.proofs.Complete.{head_is, skip_is, step, chosen, sign_reads, keyword_reads, name_reads, lit_reads}
+use Rattle.lara_syntax.proofs.ExprReaders.{ReadEach, right_of, atom-reads, negation-reads, product_with-reads, sum_with-reads, conjunction_with-reads}
 use Rattle.lara_syntax.proofs.ExprLoops.{chain-goes, chain-ends}
-use Rattle.lara_syntax.proofs.ExprChains.{two_word, next_two-some, next_two-none, Looser, looser_than, looser_word, looser_any, Part, Chain, one, more, Pair, alone, both, Within, prod_chain, sum_chain, cat_chain, cmp_pair, and_chain, or_chain}
+use Rattle.lara_syntax.proofs.ExprChains.{two_word, next_two-some, next_two-none, Looser, looser_than, looser_word, Part, Chain, one, more, Pair, alone, both, Within, prod_chain, sum_chain, cat_chain, cmp_pair, and_chain, or_chain}
 
 -- ---- what is shown of each rule
 
@@ -270,14 +270,6 @@ expr_else : (levels : ℕ) (i o : ExprReader) (k : Count) (w : Option Lexeme) (t
 expr_else levels i o k (Some (lex.Key key.If)) ts h = absurd h
 expr_else levels i o k w ts h = refl
 
-then_word_reads : (at : ℕ) (ts us : Items) → Word (lex.Key key.Then) at ts us → r.then_word ts ≡ read_of at us
-unfolding r.then_word
-then_word_reads at ts us h = chosen r.then_word_by ts (Some (lex.Key key.Then)) (read_of at us) (head_is _ at ts us h) (skip_is _ at ts us h)
-
-else_word_reads : (at : ℕ) (ts us : Items) → Word (lex.Key key.Else) at ts us → r.else_word ts ≡ read_of at us
-unfolding r.else_word
-else_word_reads at ts us h = chosen r.else_word_by ts (Some (lex.Key key.Else)) (read_of at us) (head_is _ at ts us h) (skip_is _ at ts us h)
-
 expr_from : (limit : Count) (d : ℕ) → Below (LevelReads limit) d → PartReads limit 0 (Expr d) (r.expr limit d)
 unfolding r.expr
 expr_from limit d below n x ts us (g.lone_or e m y a b h) k j total le after =
@@ -293,10 +285,10 @@ expr_from limit d below n x ts us (g.branches e l m p at a b c y z t1 t2 t3 t4 t
     let third = inner p z t6 t7 h6 k2 j (omega (arith, total.0), omega (arith, total.1)) le after in
     chosen (r.expr_by (suc e) i (r.disjunction limit (suc e)) k) t1 (Some (lex.Key key.If)) whole (head_is _ at t1 t2 h1)
     (step (r.opening (suc e)) (r.branches_rest i k) t1 at t2 whole (opening_reads _ e at t1 t2 h1)
-    (step (i k) (λ q. r.then_word >>= λ from. i q.1 >>= λ u. r.else_word >>= λ to. i u.1 >>= λ v. give (expr_at at (form.If q.0 u.0 v.0), v.1)) t2 (c, k1) t3 whole first
-    (step r.then_word (λ from. i k1 >>= λ u. r.else_word >>= λ to. i u.1 >>= λ v. give (expr_at at (form.If c u.0 v.0), v.1)) t3 a t4 whole (then_word_reads a t3 t4 h3)
-    (step (i k1) (λ u. r.else_word >>= λ to. i u.1 >>= λ v. give (expr_at at (form.If c u.0 v.0), v.1)) t4 (y, k2) t5 whole second
-    (step r.else_word (λ to. i k2 >>= λ v. give (expr_at at (form.If c y v.0), v.1)) t5 b t6 whole (else_word_reads b t5 t6 h5)
+    (step (i k) (λ q. keyword key.Then >>= λ from. i q.1 >>= λ u. keyword key.Else >>= λ to. i u.1 >>= λ v. give (expr_at at (form.If q.0 u.0 v.0), v.1)) t2 (c, k1) t3 whole first
+    (step (keyword key.Then) (λ from. i k1 >>= λ u. keyword key.Else >>= λ to. i u.1 >>= λ v. give (expr_at at (form.If c u.0 v.0), v.1)) t3 a t4 whole (keyword_reads key.Then a t3 t4 h3)
+    (step (i k1) (λ u. keyword key.Else >>= λ to. i u.1 >>= λ v. give (expr_at at (form.If c u.0 v.0), v.1)) t4 (y, k2) t5 whole second
+    (step (keyword key.Else) (λ to. i k2 >>= λ v. give (expr_at at (form.If c y v.0), v.1)) t5 b t6 whole (keyword_reads key.Else b t5 t6 h5)
     (step (i k2) (λ v. give (expr_at at (form.If c y v.0), v.1)) t6 (z, j) t7 whole third refl))))))
 
 level_reads : (limit : Count) (d : ℕ) → LevelReads limit d

@@ -3,7 +3,7 @@ use Rattle.std.proofs.Common.{◌≡◌, ℕ, zero, suc, ◌<◌, length, Option
 use Rattle.lara_data.specs.declared.expr.TwoOp.{TwoOp}
 use Rattle.lara_data.specs.declared.expr.TwoOp.TheVariants as two
 use Rattle.lara_data.specs.declared.expr.FunOp.{FunOp}
-use Rattle.lara_data.specs.declared.refusal.Kind.TheVariants.{Unexpected, TooMany}
+use Rattle.lara_data.specs.declared.refusal.Kind.TheVariants.{TooMany}
 use Rattle.lara_syntax.specs.declared.item.Lexeme.{Lexeme}
 use Rattle.lara_syntax.specs.declared.item.Lexeme.TheVariants as lex
 use Rattle.lara_syntax.specs.declared.item.Keyword.TheVariants as key
@@ -13,11 +13,11 @@ use Rattle.lara_syntax.specs.Limits.{one_sign}
 use Rattle.lara_syntax.specs.ExprGrammar.{two_at}
 use Rattle.lara_syntax.specs.ExprReading as r
 use Rattle.lara_syntax.specs.ExprReading.{CountedExpr, ExprReader}
-use Rattle.lara_syntax.specs.Reading.{sign, name, lit, next_as}
+use Rattle.lara_syntax.specs.WordReading.{sign, keyword, name, lit, next_as}
 use Rattle.lara_syntax.specs.Steps.{Items, Reader, ◌>>=◌, give, refuse, peek, skip, turns, head_word}
 use Rattle.lara_syntax.proofs.Turns.{Shortens, read_of, err_ok, none_some, rest_is}
 use Rattle.lara_syntax.proofs.Readers.{IsReader, reads_bind, reads_give, reads_refuse, reads_peek, reads_skip, reads_turns, skip_shortens, bind_ok}
-use Rattle.lara_syntax.proofs.RuleReaders.{sign-reads, name-reads, lit-reads}
+use Rattle.lara_syntax.proofs.RuleReaders.{sign-reads, keyword-reads, name-reads, lit-reads}
 
 -- what is a reader whatever the count
 abbrev pub ReadEach : ExprReader → Type 0
@@ -141,25 +141,9 @@ conjunction_with-reads limit p ip = chain-reads (r.binding two.And) limit p ip
 pub disjunction_with-reads : (limit : Count) (p : ExprReader) → ReadEach p → ReadEach (r.disjunction_with limit p)
 disjunction_with-reads limit p ip = chain-reads (r.binding two.Or) limit (r.conjunction_with limit p) (conjunction_with-reads limit p ip)
 
-then_word_by-reads : (w : Option Lexeme) → IsReader (r.then_word_by w)
-then_word_by-reads (Some (lex.Key key.Then)) = reads_skip
-then_word_by-reads w = reads_refuse Unexpected
-
-pub then_word-reads : IsReader r.then_word
-unfolding r.then_word
-then_word-reads = reads_bind peek r.then_word_by reads_peek then_word_by-reads
-
-else_word_by-reads : (w : Option Lexeme) → IsReader (r.else_word_by w)
-else_word_by-reads (Some (lex.Key key.Else)) = reads_skip
-else_word_by-reads w = reads_refuse Unexpected
-
-pub else_word-reads : IsReader r.else_word
-unfolding r.else_word
-else_word-reads = reads_bind peek r.else_word_by reads_peek else_word_by-reads
-
 pub branches_rest-reads : (i : ExprReader) → ReadEach i → (taken : Count) (at : ℕ) → IsReader (r.branches_rest i taken at)
 branches_rest-reads i ii taken at =
-    reads_bind (i taken) _ (ii taken) (λ c. reads_bind r.then_word _ then_word-reads (λ a. reads_bind (i c.1) _ (ii c.1) (λ x. reads_bind r.else_word _ else_word-reads (λ b. reads_bind (i x.1) _ (ii x.1) (λ y. reads_give _)))))
+    reads_bind (i taken) _ (ii taken) (λ c. reads_bind (keyword key.Then) _ (keyword-reads key.Then) (λ a. reads_bind (i c.1) _ (ii c.1) (λ x. reads_bind (keyword key.Else) _ (keyword-reads key.Else) (λ b. reads_bind (i x.1) _ (ii x.1) (λ y. reads_give _)))))
 
 expr_by-reads : (levels : ℕ) (i o : ExprReader) → ReadEach i → ReadEach o → (taken : Count) (w : Option Lexeme) → IsReader (r.expr_by levels i o taken w)
 expr_by-reads levels i o ii io taken (Some (lex.Key key.If)) = reads_bind (r.opening levels) (r.branches_rest i taken) (opening-reads levels) (branches_rest-reads i ii taken)

@@ -1,5 +1,5 @@
 -- What is read as an expression is in the grammar.
-use Rattle.std.proofs.Common.{◌≡◌, ℕ, zero, suc, ◌<◌, ◌≤◌, ◌+◌, ◌-◌, length, Option, Some, None, Ok, Err, Bool, true, false, cond, nat_lt, refl, sym, ap, subst, ◌∙◌, arith}
+use Rattle.std.proofs.Common.{◌≡◌, ℕ, zero, suc, ◌<◌, length, Option, Some, None, Ok, Err, Bool, true, false, cond, nat_lt, refl, sym, ap, subst, ◌∙◌, arith}
 use Rattle.std.proofs.lemmas.Bool.{ltb-true}
 use Rattle.lara_data.specs.declared.expr.TwoOp.{TwoOp}
 use Rattle.lara_data.specs.declared.expr.FunOp.{FunOp}
@@ -14,18 +14,18 @@ use Rattle.lara_syntax.specs.declared.fault.Fault.TheVariants as faults
 use Rattle.lara_syntax.specs.declared.ast_expr.AstExpr.{AstExpr}
 use Rattle.lara_syntax.specs.declared.ast_expr.AstForm.TheVariants as form
 use Rattle.lara_syntax.specs.Limits.{none_counted, one_sign, together, IsWithin}
-use Rattle.lara_syntax.specs.Grammar.{Word}
+use Rattle.lara_syntax.specs.WordGrammar.{Word}
 use Rattle.lara_syntax.specs.ExprGrammar as g
 use Rattle.lara_syntax.specs.ExprGrammar.{expr_at, two_at, literal_form, fun_word, Atom, Prod, Sum, Cat, Cmp, Not, And, Or, Expr}
 use Rattle.lara_syntax.specs.ExprReading as r
 use Rattle.lara_syntax.specs.ExprReading.{CountedExpr, ExprReader, binding}
-use Rattle.lara_syntax.specs.Reading.{sign, name, lit, next_as}
-use Rattle.lara_syntax.specs.Steps.{Items, Read, Reader, ◌>>=◌, give, refuse, skip, turns, head_word}
+use Rattle.lara_syntax.specs.WordReading.{sign, keyword, name, lit, next_as}
+use Rattle.lara_syntax.specs.Steps.{Items, Read, ◌>>=◌, give, refuse, skip, turns, head_word}
 use Rattle.lara_syntax.proofs.Counts.{IsSum}
 use Rattle.lara_syntax.proofs.Turns.{read_of, err_ok}
 use Rattle.lara_syntax.proofs.Readers.{bind_ok}
-use Rattle.lara_syntax.proofs.SoundWords.{give_to, some_is, word_taken, sign_sound, name_sound, lit_sound}
-use Rattle.lara_syntax.proofs.ExprReaders.{ReadEach, right_of, joined-shortens, atom-reads, negation-reads, product_with-reads, sum_with-reads, cat_with-reads, conjunction_with-reads}
+use Rattle.lara_syntax.proofs.SoundWords.{give_to, some_is, word_taken, sign_sound, keyword_sound, name_sound, lit_sound}
+use Rattle.lara_syntax.proofs.ExprReaders.{ReadEach, right_of, joined-shortens, atom-reads, negation-reads, product_with-reads, sum_with-reads, conjunction_with-reads}
 use Rattle.lara_syntax.proofs.ExprLoops.{chain-goes, chain-ends, chain-fails}
 use Rattle.lara_syntax.proofs.ExprChains.{two_word, next_two-is, Part, Chain, one, more, Pair, alone, both, Within, chain_prod, chain_sum, chain_cat, pair_cmp, chain_and, chain_or}
 use Rattle.lara_syntax.proofs.ExprComplete.{Below, by_levels, deeper_expr-suc, deeper_not-suc}
@@ -73,7 +73,7 @@ joined_sound tightly X Y Z limit p ps joins taken left op ts0 ts x u before next
       n = one_sign (together before.n second.n);
       total = (omega (arith, before.total.0, second.total.0), omega (arith, before.total.1, second.total.1));
       within = second.within;
-      stands = joins before.n second.n w.0 op left.0 b.0 ts0 ts w.1 f.1 i.1 before.stands word.1 second.stands
+      stands = joins before.n second.n w.0 op left.0 b.0 ts0 ts w.1 f.1 i.1 before.stands word.1 second.stands;
     })
 
 -- what is left of a chain
@@ -242,34 +242,18 @@ disjunction_from limit d below =
     let and = sound_within (Chain 1 (Not d)) (And d) limit c (chain_and d) (chain_sound 1 (Not d) limit n (negation-reads limit d) (negation_from limit d below)) in
     sound_within (Chain 0 (And d)) (Or d) limit (r.disjunction_with limit n) (chain_or d) (chain_sound 0 (And d) limit c (conjunction_with-reads limit n (negation-reads limit d)) and)
 
-then_word_when : (o : Option Lexeme) (ts : Items) (at : ℕ) (u : Items) → head_word ts ≡ o → r.then_word_by o ts ≡ read_of at u → Word (lex.Key key.Then) at ts u
-then_word_when (Some (lex.Key key.Then)) ts at u h e = word_taken (lex.Key key.Then) ts at u h e
-then_word_when w ts at u h e = absurd (err_ok {A = ℕ} _ (at, u) e)
-
-then_word_sound : (ts : Items) (at : ℕ) (u : Items) → r.then_word ts ≡ read_of at u → Word (lex.Key key.Then) at ts u
-unfolding r.then_word
-then_word_sound ts at u e = then_word_when (head_word ts) ts at u refl e
-
-else_word_when : (o : Option Lexeme) (ts : Items) (at : ℕ) (u : Items) → head_word ts ≡ o → r.else_word_by o ts ≡ read_of at u → Word (lex.Key key.Else) at ts u
-else_word_when (Some (lex.Key key.Else)) ts at u h e = word_taken (lex.Key key.Else) ts at u h e
-else_word_when w ts at u h e = absurd (err_ok {A = ℕ} _ (at, u) e)
-
-else_word_sound : (ts : Items) (at : ℕ) (u : Items) → r.else_word ts ≡ read_of at u → Word (lex.Key key.Else) at ts u
-unfolding r.else_word
-else_word_sound ts at u e = else_word_when (head_word ts) ts at u refl e
-
 expr_when : (limit : Count) (d : ℕ) → Below (LevelSound limit) d → (taken : Count) → IsWithin taken limit → (o : Option Lexeme) (ts : Items) (x : CountedExpr) (u : Items) → head_word ts ≡ o → r.expr_by d (r.deeper_expr limit d) (r.disjunction limit d) taken o ts ≡ read_of x u → ExprCounts (Expr d) limit taken x ts u
 expr_when limit d below taken le (Some (lex.Key key.If)) ts x u h e =
     let i = r.deeper_expr limit d in
     let a = bind_ok (r.opening d ts) (r.branches_rest i taken) (x, u) e in
     let at = a.0 in
     let o = opened (lex.Key key.If) d ts at a.1 h a.2 in
-    let f1 = bind_ok (i taken a.1) (λ q. r.then_word >>= λ from. i q.1 >>= λ v. r.else_word >>= λ to. i v.1 >>= λ z. give (expr_at at (form.If q.0 v.0 z.0), z.1)) (x, u) a.3 in
+    let f1 = bind_ok (i taken a.1) (λ q. keyword key.Then >>= λ from. i q.1 >>= λ v. keyword key.Else >>= λ to. i v.1 >>= λ z. give (expr_at at (form.If q.0 v.0 z.0), z.1)) (x, u) a.3 in
     let c = f1.0 in
-    let f2 = bind_ok (r.then_word f1.1) (λ from. i c.1 >>= λ v. r.else_word >>= λ to. i v.1 >>= λ z. give (expr_at at (form.If c.0 v.0 z.0), z.1)) (x, u) f1.3 in
-    let f3 = bind_ok (i c.1 f2.1) (λ v. r.else_word >>= λ to. i v.1 >>= λ z. give (expr_at at (form.If c.0 v.0 z.0), z.1)) (x, u) f2.3 in
+    let f2 = bind_ok (keyword key.Then f1.1) (λ from. i c.1 >>= λ v. keyword key.Else >>= λ to. i v.1 >>= λ z. give (expr_at at (form.If c.0 v.0 z.0), z.1)) (x, u) f1.3 in
+    let f3 = bind_ok (i c.1 f2.1) (λ v. keyword key.Else >>= λ to. i v.1 >>= λ z. give (expr_at at (form.If c.0 v.0 z.0), z.1)) (x, u) f2.3 in
     let y = f3.0 in
-    let f4 = bind_ok (r.else_word f3.1) (λ to. i y.1 >>= λ z. give (expr_at at (form.If c.0 y.0 z.0), z.1)) (x, u) f3.3 in
+    let f4 = bind_ok (keyword key.Else f3.1) (λ to. i y.1 >>= λ z. give (expr_at at (form.If c.0 y.0 z.0), z.1)) (x, u) f3.3 in
     let f5 = bind_ok (i y.1 f4.1) (λ z. give (expr_at at (form.If c.0 y.0 z.0), z.1)) (x, u) f4.3 in
     let z = f5.0 in
     let inner = inner_sound limit d o.0 o.1 below in
@@ -282,7 +266,7 @@ expr_when limit d below taken le (Some (lex.Key key.If)) ts x u h e =
       n = together s1.n (together s2.n s3.n);
       total = (omega (arith, s1.total.0, s2.total.0, s3.total.0), omega (arith, s1.total.1, s2.total.1, s3.total.1));
       within = s3.within;
-      stands = g.branches o.0 s1.n s2.n s3.n at f2.0 f4.0 c.0 y.0 z.0 ts a.1 f1.1 f2.1 f3.1 f4.1 f5.1 o.2 s1.stands (then_word_sound f1.1 f2.0 f2.1 f2.2) s2.stands (else_word_sound f3.1 f4.0 f4.1 f4.2) s3.stands
+      stands = g.branches o.0 s1.n s2.n s3.n at f2.0 f4.0 c.0 y.0 z.0 ts a.1 f1.1 f2.1 f3.1 f4.1 f5.1 o.2 s1.stands (keyword_sound key.Then f1.1 f2.0 f2.1 f2.2) s2.stands (keyword_sound key.Else f3.1 f4.0 f4.1 f4.2) s3.stands;
     }))
 expr_when limit d below taken le w ts x u h e = lone_sound (Or d) (Expr d) limit taken x ts u (g.lone_or d) (disjunction_from limit d below taken le ts x u e)
 

@@ -1,5 +1,6 @@
 pub mod Blanks
 pub mod Complete
+pub mod CompleteTables
 pub mod Counts
 pub mod ExprChains
 pub mod ExprComplete
@@ -26,8 +27,10 @@ pub mod ScriptLaws
 pub mod SignLaws
 pub mod SliceLaws
 pub mod Sound
+pub mod SoundTables
 pub mod SoundTokens
 pub mod SoundWords
+pub mod TableReaders
 pub mod TextLaws
 pub mod Turns
 pub mod Viable

@@ -20,14 +20,17 @@ use Rattle.lara_syntax.specs.Limits.{Limits, none_counted, one_operator, IsWithi
 use Rattle.lara_syntax.specs.declared.count.Count.{Count}
 use Rattle.lara_syntax.specs.Steps.{Items, Read, Reader, onward, ◌>>=◌, give, refuse, skip, head_word}
 use Rattle.lara_syntax.specs.Reading as r
+use Rattle.lara_syntax.specs.WordReading as words
 use Rattle.lara_syntax.specs.Places.{node}
-use Rattle.lara_syntax.specs.Reading.{sign, Counted}
+use Rattle.lara_syntax.specs.Reading.{Counted}
+use Rattle.lara_syntax.specs.WordReading.{sign}
 use Rattle.lara_syntax.proofs.Levels.{inside_rest}
 use Rattle.lara_syntax.proofs.Turns.{read_of, erred}
 use Rattle.lara_syntax.proofs.Readers.{IsReader, reads_bind, reads_give}
-use Rattle.lara_syntax.proofs.RuleReaders.{AreReaders, sign-reads, some_names-reads, counted, by_word-reads, two_by-reads, agg_by-reads, inside_rest-reads, operand-reads, table-reads, assign_end, assign_end-reads, assign_rest, assign_rest-reads, print_rest, print_rest-reads, has_room, next_behind, next_behind-one, statements-reads, tree_given, tree_given-reads, statements-some, statements-none, statements-fail}
+use Rattle.lara_syntax.proofs.RuleReaders.{sign-reads, some_names-reads}
+use Rattle.lara_syntax.proofs.TableReaders.{AreReaders, counted, two_by-reads, RestReads, one_by-reads, agg_rest-reads, rename_rest-reads, inside_rest-reads, operand-reads, table-reads, assign_end, assign_end-reads, assign_rest, assign_rest-reads, print_rest, print_rest-reads, has_room, next_behind, next_behind-one, statements-reads, tree_given, tree_given-reads, statements-some, statements-none, statements-fail}
 use Rattle.lara_syntax.proofs.Complete.{chosen, step}
-use Rattle.lara_syntax.proofs.PlainRules.{plain_bind, plain_give, plain_skip, plain_refuse, sign-plain, name-plain, some_names-plain, leaf-plain, by_word-plain, print_rest-plain}
+use Rattle.lara_syntax.proofs.PlainRules.{Plain, plain_bind, plain_give, plain_skip, plain_refuse, sign-plain, name-plain, some_names-plain, leaf-plain, keyword-plain, pairs-plain, some_order-plain}
 use Rattle.lara_syntax.proofs.Room.{room_left}
 use Rattle.lara_syntax.proofs.Wider.{Less, LessCount, Fits, Past, Wider, Widens, always, past_read, past_onward, wider_onward, widens_bind, widens_give, widens_plain, wider_of}
 
@@ -56,31 +59,38 @@ two_widens limit what o q iq w taken le at lt =
     (λ a ha. widens_bind (Within limit) (Within limit) (o a.1) (q a.1) (λ b. give (node at (what a.0 b.0), b.1)) (λ b. give (node at (what a.0 b.0), b.1)) (w a.1 ha) (λ b hb. widens_give (Within limit) (node at (what a.0 b.0), b.1) hb) (λ b. reads_give _))
     (λ a. reads_bind (q a.1) _ (iq a.1) (λ b. reads_give _))
 
--- an agg behind its operand, its word `by` and its names
-abbrev agg_end : ℕ → Counted → List AstName → Reader Counted
-agg_end at a ns = give (node at (op.Agg a.0 ns), a.1)
+-- what is behind the operand of an operator
+abbrev RestWidens : Count → (ℕ → Counted → Reader Counted) → (ℕ → Counted → Reader Counted) → Type 0
+RestWidens limit rest wide = (at : ℕ) (a : Counted) → IsWithin a.1 limit → Widens (Within limit) (rest at a) (wide at a)
 
-abbrev names_rest : ℕ → Counted → ℕ → Reader Counted
-names_rest at a by = r.some_names >>= agg_end at a
+one_widens : (limit : Count) (rest wide : ℕ → Counted → Reader Counted) → RestReads wide → RestWidens limit rest wide → (o q : Count → Reader Counted) → CountWidens limit o q → (taken : Count) → IsWithin taken limit → (at : ℕ) → taken.operators < limit.operators → Widens (Within limit) (r.one_by rest o taken at) (r.one_by wide q taken at)
+one_widens limit rest wide reads widens o q w taken le at lt = widens_bind (Within limit) (Within limit) (o (one_operator taken)) (q (one_operator taken)) (rest at) (wide at) (w (one_operator taken) (omega (arith, lt), le.1)) (widens at) (reads at)
 
-abbrev agg_rest : ℕ → Counted → Reader Counted
-agg_rest at a = r.by_word >>= names_rest at a
+-- a rest without limits
+rest_widens : {A : Type 0} (limit : Count) (p : Reader A) (f : A → Counted) → Plain p → ((x : A) → IsWithin (f x).1 limit) → Widens (Within limit) (p >>= λ x. give (f x)) (p >>= λ x. give (f x))
+rest_widens limit p f plain le = widens_bind always (Within limit) p p (λ x. give (f x)) (λ x. give (f x)) (widens_plain p plain) (λ x h. widens_give (Within limit) (f x) (le x)) (λ x. reads_give (f x))
 
-names_rest-reads : (at : ℕ) (a : Counted) (by : ℕ) → IsReader (names_rest at a by)
-names_rest-reads at a by = reads_bind r.some_names (agg_end at a) some_names-reads (λ ns. reads_give {A = Counted} (node at (op.Agg a.0 ns), a.1))
+agg_names-reads : (at : ℕ) (a : Counted) → IsReader (r.some_names >>= λ ns. give {A = Counted} (node at (op.Agg a.0 ns), a.1))
+agg_names-reads at a = reads_bind r.some_names _ some_names-reads (λ ns. reads_give _)
 
-agg_widens : (limit : Count) (o q : Count → Reader Counted) → AreReaders q → CountWidens limit o q → (taken : Count) → IsWithin taken limit → (at : ℕ) → taken.operators < limit.operators → Widens (Within limit) (r.agg_by o taken at) (r.agg_by q taken at)
-agg_widens limit o q iq w taken le at lt =
-    widens_bind (Within limit) (Within limit) (o (one_operator taken)) (q (one_operator taken)) (agg_rest at) (agg_rest at) (w (one_operator taken) (omega (arith, lt), le.1))
-    (λ a ha. widens_bind always (Within limit) r.by_word r.by_word (names_rest at a) (names_rest at a) (widens_plain r.by_word by_word-plain)
-    (λ by hb. widens_bind always (Within limit) r.some_names r.some_names (agg_end at a) (agg_end at a) (widens_plain r.some_names some_names-plain) (λ ns hn. widens_give (Within limit) (node at (op.Agg a.0 ns), a.1) ha) (λ ns. reads_give {A = Counted} (node at (op.Agg a.0 ns), a.1)))
-    (names_rest-reads at a))
-    (λ a. reads_bind r.by_word (names_rest at a) by_word-reads (names_rest-reads at a))
+agg_rest_widens : (limit : Count) → RestWidens limit r.agg_rest r.agg_rest
+agg_rest_widens limit at a ha =
+    widens_bind always (Within limit) (words.keyword key.By) (words.keyword key.By) (λ by. r.some_names >>= λ ns. give (node at (op.Agg a.0 ns), a.1)) (λ by. r.some_names >>= λ ns. give (node at (op.Agg a.0 ns), a.1)) (widens_plain (words.keyword key.By) (keyword-plain key.By))
+    (λ by hb. rest_widens limit r.some_names (λ ns. (node at (op.Agg a.0 ns), a.1)) some_names-plain (λ ns. ha)) (λ by. agg_names-reads at a)
+
+rename_rest_widens : (limit : Count) → RestWidens limit r.rename_rest r.rename_rest
+rename_rest_widens limit at a ha = rest_widens limit r.pairs (λ ps. (node at (op.Rename a.0 ps), a.1)) pairs-plain (λ ps. ha)
+
+-- an operator word, and what is behind it
+operator_behind : (limit more taken : Count) → LessCount limit more → IsWithin taken limit → (f g : ℕ → Reader Counted) → ((at : ℕ) → taken.operators < limit.operators → Widens (Within limit) (f at) (g at)) → ((at : ℕ) → IsReader (g at)) → (ts : Items) (w : Lexeme) → head_word ts ≡ Some w
+    → Wider (Within limit) ((r.operator_word limit taken >>= f) ts) ((r.operator_word more taken >>= g) ts)
+operator_behind limit more taken lt le f g fg ig ts w h = wider_onward (λ at. taken.operators < limit.operators) (Within limit) f g fg ig (r.operator_word limit taken ts) (r.operator_word more taken ts) (operator_widens limit more taken lt le ts w h)
 
 table_by_widens : (limit more : Count) (o q : Count → Reader Counted) → LessCount limit more → AreReaders q → CountWidens limit o q → (taken : Count) → IsWithin taken limit → (w : Option Lexeme) (ts : Items) → head_word ts ≡ w → Wider (Within limit) (r.table_by limit o taken w ts) (r.table_by more q taken w ts)
-table_by_widens limit more o q lt iq w taken le (Some (lex.Key key.Join)) ts h = wider_onward (λ at. taken.operators < limit.operators) (Within limit) (r.two_by op.Join o taken) (r.two_by op.Join q taken) (two_widens limit op.Join o q iq w taken le) (two_by-reads op.Join q iq taken) (r.operator_word limit taken ts) (r.operator_word more taken ts) (operator_widens limit more taken lt le ts (lex.Key key.Join) h)
-table_by_widens limit more o q lt iq w taken le (Some (lex.Key key.Union)) ts h = wider_onward (λ at. taken.operators < limit.operators) (Within limit) (r.two_by op.Union o taken) (r.two_by op.Union q taken) (two_widens limit op.Union o q iq w taken le) (two_by-reads op.Union q iq taken) (r.operator_word limit taken ts) (r.operator_word more taken ts) (operator_widens limit more taken lt le ts (lex.Key key.Union) h)
-table_by_widens limit more o q lt iq w taken le (Some (lex.Key key.Agg)) ts h = wider_onward (λ at. taken.operators < limit.operators) (Within limit) (r.agg_by o taken) (r.agg_by q taken) (agg_widens limit o q iq w taken le) (agg_by-reads q iq taken) (r.operator_word limit taken ts) (r.operator_word more taken ts) (operator_widens limit more taken lt le ts (lex.Key key.Agg) h)
+table_by_widens limit more o q lt iq w taken le (Some (lex.Key key.Join)) ts h = operator_behind limit more taken lt le (r.two_by op.Join o taken) (r.two_by op.Join q taken) (two_widens limit op.Join o q iq w taken le) (two_by-reads op.Join q iq taken) ts (lex.Key key.Join) h
+table_by_widens limit more o q lt iq w taken le (Some (lex.Key key.Union)) ts h = operator_behind limit more taken lt le (r.two_by op.Union o taken) (r.two_by op.Union q taken) (two_widens limit op.Union o q iq w taken le) (two_by-reads op.Union q iq taken) ts (lex.Key key.Union) h
+table_by_widens limit more o q lt iq w taken le (Some (lex.Key key.Agg)) ts h = operator_behind limit more taken lt le (r.one_by r.agg_rest o taken) (r.one_by r.agg_rest q taken) (one_widens limit r.agg_rest r.agg_rest agg_rest-reads (agg_rest_widens limit) o q w taken le) (one_by-reads r.agg_rest agg_rest-reads q iq taken) ts (lex.Key key.Agg) h
+table_by_widens limit more o q lt iq w taken le (Some (lex.Key key.Rename)) ts h = operator_behind limit more taken lt le (r.one_by r.rename_rest o taken) (r.one_by r.rename_rest q taken) (one_widens limit r.rename_rest r.rename_rest rename_rest-reads (rename_rest_widens limit) o q w taken le) (one_by-reads r.rename_rest rename_rest-reads q iq taken) ts (lex.Key key.Rename) h
 table_by_widens limit more o q lt iq w taken le v ts h = w taken le ts
 
 -- ---- levels
@@ -119,6 +129,9 @@ table_widens limit more levels deeper lt deep = table_from limit more levels dee
 
 -- ---- statements
 
+print_rest-plain : (at : ℕ) → Plain (print_rest at)
+print_rest-plain at = plain_bind words.name _ name-plain (λ x. plain_bind r.some_order _ some_order-plain (λ by. plain_bind (sign Semi) _ (sign-plain Semi) (λ b. plain_give _)))
+
 assign_widens : (a b : Limits) → Less a b → (x : AstName) → Widens always (assign_rest a x) (assign_rest b x)
 assign_widens a b less x =
     widens_bind always always (sign Is) (sign Is) (λ is. r.table a.counted a.levels none_counted >>= assign_end x) (λ is. r.table b.counted b.levels none_counted >>= assign_end x) (widens_plain (sign Is) (sign-plain Is))
@@ -127,7 +140,7 @@ assign_widens a b less x =
     (λ is. reads_bind (r.table b.counted b.levels none_counted) (assign_end x) (table-reads b.counted b.levels none_counted) (assign_end-reads x))
 
 statement_by_widens : (a b : Limits) → Less a b → (w : Option Lexeme) → Widens always (r.statement_by a w) (r.statement_by b w)
-statement_by_widens a b less (Some (lex.Name n)) = widens_bind always always r.name r.name (assign_rest a) (assign_rest b) (widens_plain r.name name-plain) (λ x h. assign_widens a b less x) (assign_rest-reads b)
+statement_by_widens a b less (Some (lex.Name n)) = widens_bind always always words.name words.name (assign_rest a) (assign_rest b) (widens_plain words.name name-plain) (λ x h. assign_widens a b less x) (assign_rest-reads b)
 statement_by_widens a b less (Some (lex.Key key.Print)) = widens_plain (skip >>= print_rest) (plain_bind skip print_rest plain_skip print_rest-plain)
 statement_by_widens a b less w = widens_plain (refuse Unexpected) plain_refuse
 
@@ -137,12 +150,12 @@ statement_widens a b less ts = statement_by_widens a b less (head_word ts) ts
 
 -- a word of a statement's begin is read
 name_begins : (limits : Limits) (n : List ℕ) (t : Item) (us : Items) → t.lexeme ≡ lex.Name n → Past (suc (length us)) (r.statement limits (t ∷ us))
-unfolding r.statement r.name
+unfolding r.statement words.name
 name_begins limits n t us e =
     let x : AstName = record { name = n; at = t.at } in
     let next = ap (λ (l : Lexeme). Some l) e in
-    let named : r.name (t ∷ us) ≡ read_of x us = chosen r.name_by (t ∷ us) (Some (lex.Name n)) (read_of x us) next refl in
-    let read : r.statement limits (t ∷ us) ≡ assign_rest limits x us = chosen (r.statement_by limits) (t ∷ us) (Some (lex.Name n)) (assign_rest limits x us) next (step r.name (assign_rest limits) (t ∷ us) x us (assign_rest limits x us) named refl) in
+    let named : words.name (t ∷ us) ≡ read_of x us = chosen words.name_by (t ∷ us) (Some (lex.Name n)) (read_of x us) next refl in
+    let read : r.statement limits (t ∷ us) ≡ assign_rest limits x us = chosen (r.statement_by limits) (t ∷ us) (Some (lex.Name n)) (assign_rest limits x us) next (step words.name (assign_rest limits) (t ∷ us) x us (assign_rest limits x us) named refl) in
     subst (λ (q : Read AstStatement). Past (suc (length us)) q) (sym read) (past_read (assign_rest limits x) (assign_rest-reads limits x) (suc (length us)) us (omega arith) (assign_rest limits x us) refl)
 
 print_begins : (limits : Limits) (t : Item) (us : Items) → t.lexeme ≡ lex.Key key.Print → Past (suc (length us)) (r.statement limits (t ∷ us))

@@ -14,8 +14,8 @@ use Rattle.lara_syntax.specs.declared.ast_expr.AstExpr.{AstExpr}
 use Rattle.lara_syntax.specs.declared.ast_expr.AstForm.TheVariants as form
 use Rattle.lara_syntax.specs.Limits.{most, none_counted}
 use Rattle.lara_syntax.specs.ExprGrammar.{expr_at, two_at}
-use Rattle.lara_syntax.specs.ExprReading.{expr, disjunction, negation, comparison, atom, deeper_expr, operator_sign, opening, then_word, else_word}
-use Rattle.lara_syntax.specs.Reading.{name, lit, sign}
+use Rattle.lara_syntax.specs.ExprReading.{expr, disjunction, negation, comparison, atom, deeper_expr, operator_sign, opening}
+use Rattle.lara_syntax.specs.WordReading.{keyword, name, lit, sign}
 use Rattle.lara_syntax.specs.Steps.{Items, turns, turns_within}
 use Rattle.lara_syntax.proofs.Turns.{read_of, erred}
 
@@ -72,7 +72,7 @@ brackets = refl
 -- if a then 1 else inf or b: what is behind `else` goes to the end
 if_loosest : reads_as (lex.Key key.If ∷ n 97 ∷ lex.Key key.Then ∷ lex.Number 1 ∷ lex.Key key.Else ∷ lex.Key key.Inf ∷ lex.Key key.Or ∷ n 98 ∷ [])
     (expr_at 0 (form.If (col 1 97) (expr_at 3 (form.Number 1)) (two_at 6 two.Or (expr_at 5 form.Inf) (col 7 98)))) 1
-unfolding expr disjunction negation comparison atom deeper_expr operator_sign opening then_word else_word name lit turns turns_within
+unfolding expr disjunction negation comparison atom deeper_expr operator_sign opening keyword name lit turns turns_within
 if_loosest = refl
 
 -- ---- what is refused

@@ -15,6 +15,7 @@ use Rattle.lara_syntax.specs.TokenWords.{name_word, number_word, text_word, one_
 use Rattle.lara_syntax.specs.Tokens.{scanned, items_of, stop_of}
 use Rattle.lara_syntax.specs.Steps.{turns, turns_within}
 use Rattle.lara_syntax.specs.Reading as r
+use Rattle.lara_syntax.specs.WordReading as words
 use Rattle.lara_syntax.specs.Parsed.{parsed}
 
 abbrev named : ℕ → ℕ → AstName
@@ -28,7 +29,7 @@ literal_printed : parsed (codes "T=table[i:nat:v:count]{1:2;};print T by i;") �
         (record { at = 23; key = record { at = 23; value = Number 1 } ∷ []; row = record { at = 25; value = Number 2 } ∷ [] } ∷ []);
   }) ∷ st.Print 29 (named 35 84) (Some (record { at = 37; names = named 40 105 ∷ [] })) ∷ [];
 })
-unfolding parsed items_of stop_of scanned stop_at gather gather_within item_here word_at name_word number_word sign_word one_sign sign_of keyword_of Rattle.lara_base.specs.Names.starts_name Rattle.lara_base.specs.Names.goes_on Rattle.lara_base.specs.Names.is_name Rattle.lara_base.specs.Names.is_keyword turns turns_within r.script r.statements r.next_statement r.statement r.name r.sign r.table r.operand r.inside r.leaf r.table_type r.some_key_cols r.key_col r.key_type r.comma_key_col r.val_cols r.val_col r.val_type r.comma_val_col r.some_entries r.entry_here r.entry r.some_lits r.lits r.lit r.comma_lit r.semi_entry r.some_order r.some_names r.comma_name
+unfolding parsed items_of stop_of scanned stop_at gather gather_within item_here word_at name_word number_word sign_word one_sign sign_of keyword_of Rattle.lara_base.specs.Names.starts_name Rattle.lara_base.specs.Names.goes_on Rattle.lara_base.specs.Names.is_name Rattle.lara_base.specs.Names.is_keyword turns turns_within r.script r.statements r.next_statement r.statement words.name words.sign r.table r.operand r.inside r.leaf r.table_type r.some_key_cols r.key_col words.key_type r.comma_key_col r.val_cols r.val_col words.val_type r.comma_val_col r.some_entries r.entry_here r.entry r.some_lits r.lits words.lit r.comma_lit r.semi_entry r.some_order r.some_names r.comma_name
 literal_printed = refl
 
 -- an entry without a key is at its `:`
@@ -38,7 +39,7 @@ keyless : parsed (codes "E=table[:v:count]{:5};") ≡ Ok (record {
     op = op.Literal (record { keys = []; vals = record { name = named 9 118; ty = val_type.Count } ∷ [] }) (record { at = 18; key = []; row = record { at = 19; value = Number 5 } ∷ [] } ∷ []);
   }) ∷ [];
 })
-unfolding parsed items_of stop_of scanned stop_at gather gather_within item_here word_at name_word number_word sign_word one_sign sign_of keyword_of Rattle.lara_base.specs.Names.starts_name Rattle.lara_base.specs.Names.goes_on Rattle.lara_base.specs.Names.is_name Rattle.lara_base.specs.Names.is_keyword turns turns_within r.script r.statements r.next_statement r.statement r.name r.sign r.table r.operand r.inside r.leaf r.table_type r.some_key_cols r.key_col r.key_type r.comma_key_col r.val_cols r.val_col r.val_type r.comma_val_col r.some_entries r.entry_here r.entry r.some_lits r.lits r.lit r.comma_lit r.semi_entry r.some_order r.some_names r.comma_name
+unfolding parsed items_of stop_of scanned stop_at gather gather_within item_here word_at name_word number_word sign_word one_sign sign_of keyword_of Rattle.lara_base.specs.Names.starts_name Rattle.lara_base.specs.Names.goes_on Rattle.lara_base.specs.Names.is_name Rattle.lara_base.specs.Names.is_keyword turns turns_within r.script r.statements r.next_statement r.statement words.name words.sign r.table r.operand r.inside r.leaf r.table_type r.some_key_cols r.key_col words.key_type r.comma_key_col r.val_cols r.val_col words.val_type r.comma_val_col r.some_entries r.entry_here r.entry r.some_lits r.lits words.lit r.comma_lit r.semi_entry r.some_order r.some_names r.comma_name
 keyless = refl
 
 -- `T=table[k:text:f:flag,p:path]{"a":true,none;:inf};`: literals and types by their words
@@ -50,7 +51,7 @@ typed_words : parsed (codes "T=table[k:text:f:flag,p:path]{\"a\":true,none;:inf}
         ∷ record { at = 44; key = []; row = record { at = 45; value = Inf } ∷ [] } ∷ []);
   }) ∷ [];
 })
-unfolding parsed items_of stop_of scanned stop_at gather gather_within item_here word_at name_word number_word text_word content_byte sign_word one_sign sign_of keyword_of Rattle.lara_base.specs.Names.starts_name Rattle.lara_base.specs.Names.goes_on Rattle.lara_base.specs.Names.is_name Rattle.lara_base.specs.Names.is_keyword turns turns_within r.script r.statements r.next_statement r.statement r.name r.sign r.table r.operand r.inside r.leaf r.table_type r.some_key_cols r.key_col r.key_type r.comma_key_col r.val_cols r.val_col r.val_type r.comma_val_col r.some_entries r.entry_here r.entry r.some_lits r.lits r.lit r.comma_lit r.semi_entry
+unfolding parsed items_of stop_of scanned stop_at gather gather_within item_here word_at name_word number_word text_word content_byte sign_word one_sign sign_of keyword_of Rattle.lara_base.specs.Names.starts_name Rattle.lara_base.specs.Names.goes_on Rattle.lara_base.specs.Names.is_name Rattle.lara_base.specs.Names.is_keyword turns turns_within r.script r.statements r.next_statement r.statement words.name words.sign r.table r.operand r.inside r.leaf r.table_type r.some_key_cols r.key_col words.key_type r.comma_key_col r.val_cols r.val_col words.val_type r.comma_val_col r.some_entries r.entry_here r.entry r.some_lits r.lits words.lit r.comma_lit r.semi_entry
 typed_words = refl
 
 -- a table in brackets is at its first word other than `(`
@@ -60,19 +61,29 @@ summed_join : parsed (codes "A=agg(join load B C)by;") ≡ Ok (record {
     op = op.Agg (record { at = 6; op = op.Join (record { at = 11; op = op.Load (named 16 66) }) (record { at = 18; op = op.Named (named 18 67) }) }) [];
   }) ∷ [];
 })
-unfolding parsed items_of stop_of scanned stop_at gather gather_within item_here word_at name_word number_word sign_word one_sign sign_of keyword_of Rattle.lara_base.specs.Names.starts_name Rattle.lara_base.specs.Names.goes_on Rattle.lara_base.specs.Names.is_name Rattle.lara_base.specs.Names.is_keyword turns turns_within r.script r.statements r.next_statement r.statement r.name r.sign r.table r.operand r.inside r.leaf r.operator_word r.by_word r.some_names r.comma_name
+unfolding parsed items_of stop_of scanned stop_at gather gather_within item_here word_at name_word number_word sign_word one_sign sign_of keyword_of Rattle.lara_base.specs.Names.starts_name Rattle.lara_base.specs.Names.goes_on Rattle.lara_base.specs.Names.is_name Rattle.lara_base.specs.Names.is_keyword turns turns_within r.script r.statements r.next_statement r.statement words.name words.sign r.table r.operand r.inside r.leaf r.operator_word words.keyword r.some_names r.comma_name
 summed_join = refl
+
+-- the pairs of a rename, of which the first follows the operand at once
+renamed : parsed (codes "B=rename A a to b,c to d;") ≡ Ok (record {
+  statements = st.Assign 0 (named 0 66) (record {
+    at = 2;
+    op = op.Rename (record { at = 9; op = op.Named (named 9 65) }) (record { old = named 11 97; new = named 16 98 } ∷ record { old = named 18 99; new = named 23 100 } ∷ []);
+  }) ∷ [];
+})
+unfolding parsed items_of stop_of scanned stop_at gather gather_within item_here word_at name_word number_word sign_word one_sign sign_of keyword_of Rattle.lara_base.specs.Names.starts_name Rattle.lara_base.specs.Names.goes_on Rattle.lara_base.specs.Names.is_name Rattle.lara_base.specs.Names.is_keyword turns turns_within r.script r.statements r.next_statement r.statement words.name words.sign r.table r.operand r.inside r.leaf r.operator_word words.keyword r.pairs r.pair r.comma_pair
+renamed = refl
 
 -- the end of a statement comes too early: its place is the length of the script
 cut_short : parsed (codes "A=B") ≡ Err (record { at = 3; kind = Unexpected })
-unfolding parsed items_of stop_of scanned stop_at gather gather_within item_here word_at name_word sign_word one_sign sign_of keyword_of Rattle.lara_base.specs.Names.starts_name Rattle.lara_base.specs.Names.goes_on Rattle.lara_base.specs.Names.is_name Rattle.lara_base.specs.Names.is_keyword turns turns_within r.script r.statements r.next_statement r.statement r.name r.sign r.table r.operand r.inside r.leaf
+unfolding parsed items_of stop_of scanned stop_at gather gather_within item_here word_at name_word sign_word one_sign sign_of keyword_of Rattle.lara_base.specs.Names.starts_name Rattle.lara_base.specs.Names.goes_on Rattle.lara_base.specs.Names.is_name Rattle.lara_base.specs.Names.is_keyword turns turns_within r.script r.statements r.next_statement r.statement words.name words.sign r.table r.operand r.inside r.leaf
 cut_short = refl
 
 -- what is no token comes before the end, and a wrong word before it
 no_token_first : parsed (codes "A=?") ≡ Err (record { at = 2; kind = BadByte })
-unfolding parsed items_of stop_of scanned stop_at gather gather_within item_here word_at name_word sign_word one_sign sign_of keyword_of Rattle.lara_base.specs.Names.starts_name Rattle.lara_base.specs.Names.goes_on Rattle.lara_base.specs.Names.is_name Rattle.lara_base.specs.Names.is_keyword turns turns_within r.script r.statements r.next_statement r.statement r.name r.sign r.table r.operand r.inside r.leaf
+unfolding parsed items_of stop_of scanned stop_at gather gather_within item_here word_at name_word sign_word one_sign sign_of keyword_of Rattle.lara_base.specs.Names.starts_name Rattle.lara_base.specs.Names.goes_on Rattle.lara_base.specs.Names.is_name Rattle.lara_base.specs.Names.is_keyword turns turns_within r.script r.statements r.next_statement r.statement words.name words.sign r.table r.operand r.inside r.leaf
 no_token_first = refl
 
 wrong_word_first : parsed (codes "A;?") ≡ Err (record { at = 1; kind = Unexpected })
-unfolding parsed items_of stop_of scanned stop_at gather gather_within item_here word_at name_word sign_word one_sign sign_of keyword_of Rattle.lara_base.specs.Names.starts_name Rattle.lara_base.specs.Names.goes_on Rattle.lara_base.specs.Names.is_name Rattle.lara_base.specs.Names.is_keyword turns turns_within r.script r.statements r.next_statement r.statement r.name r.sign
+unfolding parsed items_of stop_of scanned stop_at gather gather_within item_here word_at name_word sign_word one_sign sign_of keyword_of Rattle.lara_base.specs.Names.starts_name Rattle.lara_base.specs.Names.goes_on Rattle.lara_base.specs.Names.is_name Rattle.lara_base.specs.Names.is_keyword turns turns_within r.script r.statements r.next_statement r.statement words.name words.sign
 wrong_word_first = refl

@@ -17,7 +17,7 @@ use Rattle.lara_syntax.specs.declared.ast.AstValue.TheVariants as val
 use Rattle.lara_syntax.specs.declared.ast_expr.AstExpr.{AstExpr}
 use Rattle.lara_syntax.specs.declared.ast_expr.AstForm.{AstForm}
 use Rattle.lara_syntax.specs.declared.ast_expr.AstForm.TheVariants as form
-use Rattle.lara_syntax.specs.Grammar.{Mark, Key, Named, Lit}
+use Rattle.lara_syntax.specs.WordGrammar.{Mark, Key, Named, Lit}
 use Rattle.lara_syntax.specs.Limits.{none_counted, one_sign, together}
 use Rattle.lara_syntax.specs.Steps.{Items}
 

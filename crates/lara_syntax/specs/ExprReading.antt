@@ -4,7 +4,7 @@ use Rattle.lara_data.specs.declared.expr.TwoOp.{TwoOp}
 use Rattle.lara_data.specs.declared.expr.TwoOp.TheVariants as two
 use Rattle.lara_data.specs.declared.expr.FunOp.{FunOp}
 use Rattle.lara_data.specs.declared.expr.FunOp.TheVariants as fun
-use Rattle.lara_data.specs.declared.refusal.Kind.TheVariants.{Unexpected, TooMany}
+use Rattle.lara_data.specs.declared.refusal.Kind.TheVariants.{TooMany}
 use Rattle.lara_syntax.specs.declared.item.Lexeme.{Lexeme}
 use Rattle.lara_syntax.specs.declared.item.Lexeme.TheVariants as lex
 use Rattle.lara_syntax.specs.declared.item.Keyword.TheVariants as key
@@ -14,7 +14,7 @@ use Rattle.lara_syntax.specs.declared.ast_expr.AstExpr.{AstExpr}
 use Rattle.lara_syntax.specs.declared.ast_expr.AstForm.TheVariants as form
 use Rattle.lara_syntax.specs.ExprGrammar.{expr_at, two_at, literal_form}
 use Rattle.lara_syntax.specs.Limits.{one_sign}
-use Rattle.lara_syntax.specs.Reading.{sign, name, lit, next_as}
+use Rattle.lara_syntax.specs.WordReading.{sign, keyword, name, lit, next_as}
 use Rattle.lara_syntax.specs.Steps.{Reader, ◌>>=◌, give, refuse, peek, skip, turns}
 
 -- an expression, and what was counted in the statement up to its end
@@ -213,31 +213,13 @@ disjunction_with limit negation = chain (binding two.Or) limit (conjunction_with
 
 -- ---- expr = "if" expr "then" expr "else" expr | or
 
--- "then", by the word that is next
-abbrev pub then_word_by : Option Lexeme → Reader ℕ
-then_word_by (Some (lex.Key key.Then)) = skip
-then_word_by w = refuse Unexpected
-
--- "then"
-unfoldable pub then_word : Reader ℕ
-then_word = peek >>= then_word_by
-
--- "else", by the word that is next
-abbrev pub else_word_by : Option Lexeme → Reader ℕ
-else_word_by (Some (lex.Key key.Else)) = skip
-else_word_by w = refuse Unexpected
-
--- "else"
-unfoldable pub else_word : Reader ℕ
-else_word = peek >>= else_word_by
-
 -- "if" expr "then" expr "else" expr behind its word
 abbrev pub branches_rest : ExprReader → Count → ℕ → Reader CountedExpr
 branches_rest inner taken at = do
   c ← inner taken
-  from ← then_word
+  from ← keyword key.Then
   x ← inner c.1
-  to ← else_word
+  to ← keyword key.Else
   y ← inner x.1
   give (expr_at at (form.If c.0 x.0 y.0), y.1)
 

@@ -24,3 +24,5 @@ pub mod TokenLists
 pub mod TokenReadings
 pub mod TokenWords
 pub mod Tokens
+pub mod WordGrammar
+pub mod WordReading

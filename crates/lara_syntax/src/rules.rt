@@ -5,5 +5,6 @@ pub mod expr_words;
 pub mod exprs;
 pub mod leaves;
 pub mod names;
+pub mod pairs;
 pub mod statements;
 pub mod tables;

@@ -7,9 +7,7 @@ use crate::ast::{
     AstValue,
 };
 use crate::ast_expr::{AstExpr, AstForm};
-use crate::ast_part::{
-    AstArg, AstArgLit, AstArgValue, AstCall, AstDef, AstDefs, AstKeyDef, AstPair,
-};
+use crate::ast_part::{AstArg, AstArgLit, AstArgValue, AstCall, AstDef, AstDefs, AstKeyDef};
 use crate::tests_grammar::{behind_name, behind_names, behind_node, behind_statement};
 use crate::tests_shown::{behind, behind_number, behind_place, copy_of, is_end};
 use crate::tests_tokens::{are_shown, behind_word};
@@ -222,11 +220,6 @@ fn key_def(alloc: Global) -> Result<AstKeyDef, AllocError> {
     })
 }
 
-fn pair(alloc: Global) -> Result<AstPair, AllocError> {
-    let (old, new) = both(placed(alloc, b'i'), placed(alloc, b'j'))?;
-    Ok(AstPair { old, new })
-}
-
 fn column_arg(alloc: Global) -> Result<AstArg, AllocError> {
     Ok(AstArg::Column(placed(alloc, b'a')?))
 }
@@ -264,11 +257,6 @@ fn promote_op(alloc: Global) -> Result<AstOp, AllocError> {
     Ok(AstOp::Promote(a, def))
 }
 
-fn rename_op(alloc: Global) -> Result<AstOp, AllocError> {
-    let (a, pairs) = both(named(alloc), one(alloc, pair(alloc)))?;
-    Ok(AstOp::Rename(a, pairs))
-}
-
 fn apply_op(alloc: Global, arg: Result<AstArg, AllocError>) -> Result<AstOp, AllocError> {
     let (a, call) = both(named(alloc), copied(alloc, call(alloc, arg)))?;
     Ok(AstOp::Apply(a, call))
@@ -278,14 +266,6 @@ fn behind_defs<'a>(want: &'a [u8], defs: &[AstDef]) -> Option<&'a [u8]> {
     let mut rest = want;
     for def in defs {
         rest = behind_expr(behind_name(rest, &def.col.name)?, &def.expr)?;
-    }
-    Some(rest)
-}
-
-fn behind_pairs<'a>(want: &'a [u8], pairs: &[AstPair]) -> Option<&'a [u8]> {
-    let mut rest = want;
-    for pair in pairs {
-        rest = behind_name(behind_name(rest, &pair.old)?, &pair.new)?;
     }
     Some(rest)
 }
@@ -330,10 +310,6 @@ fn behind_table<'a>(want: &'a [u8], node: &AstNode) -> Option<&'a [u8]> {
         AstOp::Promote(a, def) => {
             let rest = behind_node(behind(rest, b"promote ")?, a.get())?;
             behind_expr(behind_name(rest, &def.col.name)?, &def.expr)
-        }
-        AstOp::Rename(a, pairs) => {
-            let rest = behind_node(behind(rest, b"rename ")?, a.get())?;
-            behind_pairs(rest, pairs.as_slice())
         }
         AstOp::Apply(a, call) => {
             let rest = behind_node(behind(rest, b"apply ")?, a.get())?;
@@ -383,7 +359,6 @@ fn operators_are_copied(rt: HostRuntime) -> Result<(), Fail> {
     assert!(rt; is_table_copied_as(alloc, map_op(alloc), b"7 map 7 T@7 v@7 4 5 ")?);
     assert!(rt; is_table_copied_as(alloc, filter_op(alloc), b"7 filter 7 T@7 4 5 ")?);
     assert!(rt; is_table_copied_as(alloc, promote_op(alloc), b"7 promote 7 T@7 k@7 4 6 ")?);
-    assert!(rt; is_table_copied_as(alloc, rename_op(alloc), b"7 rename 7 T@7 i@7 j@7 ")?);
     Ok(())
 }
 

@@ -5,6 +5,7 @@ use crate::ast::{
     Ast, AstBy, AstEntry, AstKeyCol, AstLit, AstName, AstNode, AstOp, AstStatement, AstType,
     AstValCol, AstValue,
 };
+use crate::ast_part::AstPair;
 use crate::parsing::parse;
 use crate::tests_shown::{behind, behind_number, behind_place, copy_of, is_end, is_refusal};
 use lara_data::ReadFault;
@@ -14,7 +15,7 @@ use std::alloc::{AllocError, Global};
 
 // Each script with its tree: a statement, a table, an entry, a name and a value each with its place, and the types of
 // columns; or its refusal.
-const CASES: [(&[u8], &str); 43] = [
+const CASES: [(&[u8], &str); 46] = [
     (b"", ""),
     (b"# nothing\n", ""),
     (
@@ -42,6 +43,10 @@ const CASES: [(&[u8], &str); 43] = [
         "0 C@0 = 4 union 10 load A@15 19 agg 23 T@23 by ",
     ),
     (b"C = ((T));", "0 C@0 = 6 T@6 "),
+    (
+        b"B = rename (A) a to b, c to d;",
+        "0 B@0 = 4 rename 12 A@12 a@15 b@20 c@23 d@28 ",
+    ),
     (b"T = ;", "4 Unexpected"),
     (b"T = join A;", "10 Unexpected"),
     (b"T = join A agg B by;", "11 Unexpected"),
@@ -49,6 +54,8 @@ const CASES: [(&[u8], &str); 43] = [
     (b"T = (A", "6 Unexpected"),
     (b"T = agg A;", "9 Unexpected"),
     (b"T = agg A by i,;", "15 Unexpected"),
+    (b"T = rename A a b;", "15 Unexpected"),
+    (b"T = rename A a to;", "17 Unexpected"),
     (b"T = load;", "8 Unexpected"),
     (b"T = A B;", "6 Unexpected"),
     (b"T = ", "4 Unexpected"),
@@ -178,6 +185,14 @@ fn behind_type<'a>(want: &'a [u8], ty: &AstType) -> Option<&'a [u8]> {
     behind_vals(behind(rest, b": ")?, ty.vals.as_slice())
 }
 
+fn behind_pairs<'a>(want: &'a [u8], pairs: &[AstPair]) -> Option<&'a [u8]> {
+    let mut rest = want;
+    for pair in pairs {
+        rest = behind_name(behind_name(rest, &pair.old)?, &pair.new)?;
+    }
+    Some(rest)
+}
+
 // What is left behind a table: its place, its word and what follows, each operand likewise.
 pub fn behind_node<'a>(want: &'a [u8], node: &AstNode) -> Option<&'a [u8]> {
     let rest = behind_place(want, node.at)?;
@@ -195,6 +210,10 @@ pub fn behind_node<'a>(want: &'a [u8], node: &AstNode) -> Option<&'a [u8]> {
         AstOp::Agg(a, names) => {
             let rest = behind_node(behind(rest, b"agg ")?, a.get())?;
             behind_names(behind(rest, b"by ")?, names.as_slice())
+        }
+        AstOp::Rename(a, pairs) => {
+            let rest = behind_node(behind(rest, b"rename ")?, a.get())?;
+            behind_pairs(rest, pairs.as_slice())
         }
         _ => None,
     }
@@ -389,9 +408,10 @@ fn the_65th_level_is_refused(rt: HostRuntime) -> Result<(), AllocError> {
 #[test]
 fn the_65th_operator_is_refused(rt: HostRuntime) -> Result<(), AllocError> {
     // Behind 63 operator words and as many levels, which take 506 bytes.
-    let cases: [(&[u8], &str); 3] = [
+    let cases: [(&[u8], &str); 4] = [
         (b"agg A by ,", "515 Unexpected"),
         (b"union A (join", "515 TooMany"),
+        (b"rename (rename", "514 TooMany"),
         (b"union A join", "514 Unexpected"),
     ];
     for (behind, want) in cases {

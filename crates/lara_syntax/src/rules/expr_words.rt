@@ -3,8 +3,8 @@ ghost use Rattle.std.specs.Prelude.{◌≡◌, ◌∷◌, ◌+◌, ◌≤◌, �
 ghost use Rattle.lara_syntax.specs.Limits.{most};
 ghost use Rattle.lara_syntax.specs.Returns.{Returns};
 ghost use Rattle.lara_syntax.specs.Steps.{head_word};
-ghost use Rattle.lara_syntax.specs.Reading.{next_as};
-ghost use Rattle.lara_syntax.specs.ExprReading.{two_of, binding, next_two, operator_sign, opening, fun_of, then_word, else_word};
+ghost use Rattle.lara_syntax.specs.WordReading.{next_as};
+ghost use Rattle.lara_syntax.specs.ExprReading.{two_of, binding, next_two, operator_sign, opening, fun_of};
 
 use crate::count::Count;
 use crate::fault::Stop;
@@ -101,33 +101,5 @@ pub fn fun_of(lexeme: &Lexeme) -> Option<FunOp>
         Lexeme::Key(Keyword::Path) => Some(FunOp::Path),
         Lexeme::Key(Keyword::Text) => Some(FunOp::Text),
         _ => None,
-    }
-}
-
-/// The place of "then".
-#[tactic(auto, unfolding(crate::specs::ExprReading::then_word))]
-pub fn then_word(items: &[Item]) -> Result<(u32, &[Item]), Stop>
-    ensures { Returns (λ x. (x.0, x.1.now)) result (then_word items.now) }
-{
-    let Some((item, rest)) = next(items) else {
-        return Err(stopped(items, Kind::Unexpected));
-    };
-    match &item.lexeme {
-        Lexeme::Key(Keyword::Then) => Ok((item.at, rest)),
-        _ => Err(stopped(items, Kind::Unexpected)),
-    }
-}
-
-/// The place of "else".
-#[tactic(auto, unfolding(crate::specs::ExprReading::else_word))]
-pub fn else_word(items: &[Item]) -> Result<(u32, &[Item]), Stop>
-    ensures { Returns (λ x. (x.0, x.1.now)) result (else_word items.now) }
-{
-    let Some((item, rest)) = next(items) else {
-        return Err(stopped(items, Kind::Unexpected));
-    };
-    match &item.lexeme {
-        Lexeme::Key(Keyword::Else) => Ok((item.at, rest)),
-        _ => Err(stopped(items, Kind::Unexpected)),
     }
 }

@@ -11,8 +11,8 @@ use crate::count::Count;
 use crate::fault::Fault;
 use crate::item::{Item, Keyword, Lexeme, Sign};
 use crate::rules::entries::lit;
-use crate::rules::expr_words::{else_word, fun_of, next_two, opening, operator_sign, then_word};
-use crate::steps::{name, next, sign};
+use crate::rules::expr_words::{fun_of, next_two, opening, operator_sign};
+use crate::steps::{keyword, name, next, sign};
 use lara_base::Boxed;
 use lara_data::{FunOp, TwoOp};
 use std::alloc::{AllocError, Global};
@@ -252,9 +252,9 @@ fn branches(
 {
     let (at, rest) = opening(items, levels)?;
     let (c, taken, rest) = expr(alloc, levels - 1, taken, rest)?;
-    let (_, rest) = then_word(rest)?;
+    let (_, rest) = keyword(rest, Keyword::Then)?;
     let (x, taken, rest) = expr(alloc, levels - 1, taken, rest)?;
-    let (_, rest) = else_word(rest)?;
+    let (_, rest) = keyword(rest, Keyword::Else)?;
     let (y, taken, rest) = expr(alloc, levels - 1, taken, rest)?;
     let form = AstForm::If(
         Boxed::new(alloc, c)?,

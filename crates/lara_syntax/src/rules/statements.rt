@@ -109,7 +109,7 @@ fn has_room(before: &[AstStatement]) -> bool
 }
 
 // script = { statement }
-#[tactic(auto, using(crate::proofs::RuleReaders::statement_laws))]
+#[tactic(auto, using(crate::proofs::TableReaders::statement_laws))]
 fn statements(alloc: Global, items: &[Item]) -> Result<(List<AstStatement>, &[Item]), Fault>
     ensures { Gives (λ x. (x.0, x.1.now)) result (statements most [] items.now) }
 {

@@ -3,7 +3,7 @@ ghost use Rattle.std.specs.Prelude.{◌≡◌, ◌∷◌, ◌+◌, ◌≤◌, �
 ghost use Rattle.lara_syntax.specs.Limits.{most};
 ghost use Rattle.lara_syntax.specs.Returns.{Returns};
 ghost use Rattle.lara_syntax.specs.Steps.{Gives};
-ghost use Rattle.lara_syntax.specs.Reading.{by_word, operator_word, join_with, union_with, agg_with, inside, operand, table};
+ghost use Rattle.lara_syntax.specs.Reading.{operator_word, join_with, union_with, agg_with, rename_with, inside, operand, table};
 
 use crate::ast::{AstNode, AstOp};
 use crate::count::Count;
@@ -11,24 +11,11 @@ use crate::fault::{Fault, Stop};
 use crate::item::{Item, Keyword, Lexeme, Sign};
 use crate::rules::leaves::leaf;
 use crate::rules::names::some_names;
-use crate::steps::{next, sign, stopped};
+use crate::rules::pairs::pairs;
+use crate::steps::{keyword, next, sign, stopped};
 use lara_base::Boxed;
 use lara_data::Kind;
 use std::alloc::Global;
-
-// The place of "by".
-#[tactic(auto, unfolding(crate::specs::Reading::by_word))]
-fn by_word(items: &[Item]) -> Result<(u32, &[Item]), Stop>
-    ensures { Returns (λ x. (x.0, x.1.now)) result (by_word items.now) }
-{
-    let Some((item, rest)) = next(items) else {
-        return Err(stopped(items, Kind::Unexpected));
-    };
-    match &item.lexeme {
-        Lexeme::Key(Keyword::By) => Ok((item.at, rest)),
-        _ => Err(stopped(items, Kind::Unexpected)),
-    }
-}
 
 // The place of an operator word behind so many others.
 #[tactic(auto, unfolding(crate::specs::Reading::operator_word))]
@@ -92,9 +79,26 @@ fn agg(
 {
     let (at, rest) = operator_word(items, taken)?;
     let (a, taken, rest) = operand(alloc, levels, taken.one_operator(), rest)?;
-    let (_, rest) = by_word(rest)?;
+    let (_, rest) = keyword(rest, Keyword::By)?;
     let (names, rest) = some_names(alloc, rest)?;
     let op = AstOp::Agg(Boxed::new(alloc, a)?, names);
+    Ok((AstNode { at, op }, taken, rest))
+}
+
+// "rename" operand pair { "," pair }
+#[cycle(tables)]
+fn rename(
+    alloc: Global,
+    levels: u32,
+    taken: Count,
+    items: &[Item],
+) -> Result<(AstNode, Count, &[Item]), Fault>
+    ensures { Gives (λ x. ((x.0, x.1), x.2.now)) result (rename_with most.counted (operand most.counted levels) taken items.now) }
+{
+    let (at, rest) = operator_word(items, taken)?;
+    let (a, taken, rest) = operand(alloc, levels, taken.one_operator(), rest)?;
+    let (pairs, rest) = pairs(alloc, rest)?;
+    let op = AstOp::Rename(Boxed::new(alloc, a)?, pairs);
     Ok((AstNode { at, op }, taken, rest))
 }
 
@@ -140,7 +144,8 @@ fn operand(
     Ok((x, taken, rest))
 }
 
-/// table = "join" operand operand | "union" operand operand | "agg" operand "by" [ names ] | operand
+/// table = "join" operand operand | "union" operand operand | "agg" operand "by" [ names ]
+///       | "rename" operand pair { "," pair } | operand
 #[tactic(auto, unfolding(crate::specs::Reading::table))]
 #[cycle(tables)]
 pub fn table(
@@ -158,6 +163,7 @@ pub fn table(
         Lexeme::Key(Keyword::Join) => join(alloc, levels, taken, items),
         Lexeme::Key(Keyword::Union) => union(alloc, levels, taken, items),
         Lexeme::Key(Keyword::Agg) => agg(alloc, levels, taken, items),
+        Lexeme::Key(Keyword::Rename) => rename(alloc, levels, taken, items),
         _ => operand(alloc, levels, taken, items),
     }
 }

@@ -17,5 +17,8 @@ decreases-union l = 4 * l.levels + 2
 abbrev pub decreases-agg : goal.decreases-agg
 decreases-agg l = 4 * l.levels + 2
 
+abbrev pub decreases-rename : goal.decreases-rename
+decreases-rename l = 4 * l.levels + 2
+
 abbrev pub decreases-table : goal.decreases-table
 decreases-table l = 4 * l.levels + 3
