@@ -1,5 +1,5 @@
 -- Each rule of expressions with wider limits: it gives the same, or goes past the word of which there are too many.
-use Rattle.std.proofs.Common.{inl, inr, ◌≡◌, ℕ, zero, suc, ◌<◌, ◌≤◌, [], ◌∷◌, length, Option, Some, None, Ok, Err, Bool, true, false, cond, nat_lt, refl, sym, ap, subst, ◌∙◌, arith}
+use Rattle.std.proofs.Common.{inl, inr, ◌≡◌, ℕ, zero, suc, ◌<◌, [], ◌∷◌, length, Option, Some, None, Ok, Err, Bool, true, false, cond, nat_lt, refl, sym, ap, subst, arith}
 use Rattle.std.proofs.lemmas.Bool.{ltb-true, lt-ltb}
 use Rattle.lara_data.specs.declared.expr.TwoOp.{TwoOp}
 use Rattle.lara_data.specs.declared.expr.FunOp.{FunOp}
@@ -11,7 +11,6 @@ use Rattle.lara_syntax.specs.declared.item.Keyword.TheVariants as key
 use Rattle.lara_syntax.specs.declared.item.Sign.TheVariants.{Open, Close}
 use Rattle.lara_syntax.specs.declared.count.Count.{Count}
 use Rattle.lara_syntax.specs.declared.fault.Fault.TheVariants as faults
-use Rattle.lara_syntax.specs.declared.fault.Stop.{Stop}
 use Rattle.lara_syntax.specs.declared.ast_expr.AstForm.TheVariants as form
 use Rattle.lara_syntax.specs.Limits.{one_sign, IsWithin}
 use Rattle.lara_syntax.specs.ExprGrammar.{expr_at, two_at, literal_form, fun_word}
@@ -20,11 +19,11 @@ use Rattle.lara_syntax.specs.ExprReading.{CountedExpr, ExprReader}
 use Rattle.lara_syntax.specs.WordReading.{sign, keyword, name, lit, next_as}
 use Rattle.lara_syntax.specs.Steps.{Items, Read, Reader, ◌>>=◌, give, refuse, skip, turns, head_word}
 use Rattle.lara_syntax.proofs.Turns.{read_of, erred}
-use Rattle.lara_syntax.proofs.Readers.{IsReader, reads_bind, reads_give, reads_turns}
+use Rattle.lara_syntax.proofs.Readers.{IsReader, reads_bind, reads_give}
 use Rattle.lara_syntax.proofs.RuleReaders.{sign-reads, keyword-reads}
 use Rattle.lara_syntax.proofs.PlainRules.{sign-plain, keyword-plain, name-plain, lit-plain}
 use Rattle.lara_syntax.proofs.Wider.{LessCount, Fits, Past, Wider, Widens, always, past_read, wider_onward, widens_bind, widens_give, widens_plain, wider_of}
-use Rattle.lara_syntax.proofs.ExprReaders.{ReadEach, right_of, right_of-reads, joined-shortens, operated-reads, operated-shorter, paired-reads, call_rest-reads, brackets_rest-reads, negated_rest-reads, branches_rest-reads, deeper_expr-reads, deeper_not-reads, atom-reads, product_with-reads, sum_with-reads, cat_with-reads, conjunction_with-reads, negation-reads}
+use Rattle.lara_syntax.proofs.ExprReaders.{ReadEach, right_of, right_of-reads, joined-shortens, turns-reads, paired-reads, call_rest-reads, brackets_rest-reads, negated_rest-reads, branches_rest-reads, deeper_expr-reads, deeper_not-reads, atom-reads, product_with-reads, sum_with-reads, cat_with-reads, conjunction_with-reads, negation-reads}
 use Rattle.lara_syntax.proofs.ExprLoops.{chain-goes, chain-ends, chain-fails}
 use Rattle.lara_syntax.proofs.ExprChains.{two_word, next_two-is}
 use Rattle.lara_syntax.proofs.ExprComplete.{Below, by_levels, deeper_expr-suc, deeper_not-suc}
@@ -59,9 +58,6 @@ joined_widens limit more lt p q iq pw left le op ts w h =
 abbrev RestWidens : ℕ → Count → Count → ExprReader → ExprReader → ℕ → Type 0
 RestWidens t limit more p q fuel = (left : CountedExpr) → ExprWithin limit left → (ts : Items) → length ts < fuel → Wider (ExprWithin limit) (turns (r.operated t limit p) left ts) (turns (r.operated t more q) left ts)
 
-rest-reads : (t : ℕ) (limit : Count) (p : ExprReader) → ReadEach p → (left : CountedExpr) → IsReader (turns (r.operated t limit p) left)
-rest-reads t limit p ip left = reads_turns (r.operated t limit p) (operated-shorter t limit p ip) (operated-reads t limit p ip) left
-
 same_turn : (t : ℕ) (limit more : Count) (p q : ExprReader) → ReadEach p → ReadEach q → (fuel : ℕ) → RestWidens t limit more p q fuel → (left : CountedExpr) (op : TwoOp) (o : Read CountedExpr) (ts : Items) → r.next_two t (head_word ts) ≡ Some op → r.joined limit p left op ts ≡ o → r.joined more q left op ts ≡ o → Fits (ExprWithin limit) o → length ts < suc fuel
     → Wider (ExprWithin limit) (turns (r.operated t limit p) left ts) (turns (r.operated t more q) left ts)
 same_turn t limit more p q ip iq fuel next left op (Ok (x, m)) ts n h k fits lt =
@@ -71,7 +67,7 @@ same_turn t limit more p q ip iq fuel next left op (Err c) ts n h k fits lt =
     wider_of (ExprWithin limit) (turns (r.operated t limit p) left ts) (erred c) (turns (r.operated t more q) left ts) (erred c) (chain-fails t limit p ip left op ts (faults.Stopped c) n h) (chain-fails t more q iq left op ts (faults.Stopped c) n k) (inl (refl, fits))
 
 past_turn : (t : ℕ) (more : Count) (q : ExprReader) → ReadEach q → (left : CountedExpr) (op : TwoOp) (n : ℕ) (o : Read CountedExpr) (ts : Items) → r.next_two t (head_word ts) ≡ Some op → r.joined more q left op ts ≡ o → Past n o → Past n (turns (r.operated t more q) left ts)
-past_turn t more q iq left op n (Ok (x, m)) ts e k lt = subst (λ (y : Read CountedExpr). Past n y) (sym (chain-goes t more q iq left op ts x m e k)) (past_read (turns (r.operated t more q) x) (rest-reads t more q iq x) n m lt (turns (r.operated t more q) x m) refl)
+past_turn t more q iq left op n (Ok (x, m)) ts e k lt = subst (λ (y : Read CountedExpr). Past n y) (sym (chain-goes t more q iq left op ts x m e k)) (past_read (turns (r.operated t more q) x) (turns-reads t more q iq x) n m lt (turns (r.operated t more q) x m) refl)
 past_turn t more q iq left op n (Err c) ts e k lt = subst (λ (y : Read CountedExpr). Past n y) (sym (chain-fails t more q iq left op ts (faults.Stopped c) e k)) lt
 
 turn_widens : (t : ℕ) (limit more : Count) (p q : ExprReader) → ReadEach p → ReadEach q → (fuel : ℕ) → RestWidens t limit more p q fuel → (left : CountedExpr) (op : TwoOp) (ts : Items) → r.next_two t (head_word ts) ≡ Some op → length ts < suc fuel → Wider (ExprWithin limit) (r.joined limit p left op ts) (r.joined more q left op ts)
@@ -92,7 +88,7 @@ rest_widens t limit more less p q ip iq pw (suc fuel) left le ts lt = rest_by t 
 
 chain_widens : (t : ℕ) (limit more : Count) → LessCount limit more → (p q : ExprReader) → ReadEach p → ReadEach q → PartWidens limit p q → PartWidens limit (r.chain t limit p) (r.chain t more q)
 chain_widens t limit more less p q ip iq pw taken le =
-    widens_bind (ExprWithin limit) (ExprWithin limit) (p taken) (q taken) (turns (r.operated t limit p)) (turns (r.operated t more q)) (pw taken le) (λ left hl ts. rest_widens t limit more less p q ip iq pw (suc (length ts)) left hl ts (omega arith)) (rest-reads t more q iq)
+    widens_bind (ExprWithin limit) (ExprWithin limit) (p taken) (q taken) (turns (r.operated t limit p)) (turns (r.operated t more q)) (pw taken le) (λ left hl ts. rest_widens t limit more less p q ip iq pw (suc (length ts)) left hl ts (omega arith)) (turns-reads t more q iq)
 
 pair_by_widens : (t : ℕ) (limit more : Count) → LessCount limit more → (p q : ExprReader) → ReadEach q → PartWidens limit p q → (o : Option TwoOp) (left : CountedExpr) → ExprWithin limit left → (ts : Items) → r.next_two t (head_word ts) ≡ o → Wider (ExprWithin limit) (r.pair_by limit p left o ts) (r.pair_by more q left o ts)
 pair_by_widens t limit more less p q iq pw None left le ts n = inl (refl, le)

@@ -35,10 +35,12 @@ pub mod TableReaders
 pub mod TextLaws
 pub mod Turns
 pub mod Viable
+pub mod ViableExprs
 pub mod ViableLoop
 pub mod ViableOperands
 pub mod ViableScript
 pub mod ViableTables
+pub mod ViableTurns
 pub mod ViableWords
 pub mod Wider
 pub mod WiderRules
