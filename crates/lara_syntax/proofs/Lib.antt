@@ -38,9 +38,11 @@ pub mod ViableLoop
 pub mod ViableOperands
 pub mod ViableScript
 pub mod ViableTables
+pub mod ViableTurns
 pub mod ViableWords
 pub mod Wider
 pub mod WiderRules
+pub mod WiderTurns
 pub mod WordLaws
 pub mod WordReads
 pub mod WordTextLaws
