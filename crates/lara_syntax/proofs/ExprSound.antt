@@ -181,7 +181,7 @@ fun_word-is (lex.Key key.Path) f e = ap (λ (q : FunOp). lex.Key (fun_word q)) (
 fun_word-is (lex.Key key.Text) f e = ap (λ (q : FunOp). lex.Key (fun_word q)) (some_is fun.Text f e)
 fun_word-is w f e = absurd cc
 
-next_fun-is : (w : Option Lexeme) (f : FunOp) → next_as r.fun_of w ≡ Some f → w ≡ Some (lex.Key (fun_word f))
+pub next_fun-is : (w : Option Lexeme) (f : FunOp) → next_as r.fun_of w ≡ Some f → w ≡ Some (lex.Key (fun_word f))
 next_fun-is None f e = absurd cc
 next_fun-is (Some w) f e = ap (λ (v : Lexeme). Some v) (fun_word-is w f e)
 

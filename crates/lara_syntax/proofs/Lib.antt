@@ -7,6 +7,7 @@ pub mod ExprComplete
 pub mod ExprLoops
 pub mod ExprReaders
 pub mod ExprSound
+pub mod ExprWider
 pub mod Gather
 pub mod ItemLaws
 pub mod Levels

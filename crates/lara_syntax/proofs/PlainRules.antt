@@ -97,7 +97,7 @@ val_type-plain : Plain words.val_type
 unfolding words.val_type
 val_type-plain = plain_choice words.val_type_by (λ w. taken_as-plain words.without_place (words.next_as words.word_val_type w))
 
-lit-plain : Plain words.lit
+pub lit-plain : Plain words.lit
 unfolding words.lit
 lit-plain = plain_choice words.lit_by (λ w. taken_as-plain words.lit_at (words.next_as words.literal_of w))
 
