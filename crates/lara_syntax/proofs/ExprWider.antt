@@ -1,5 +1,5 @@
 -- Each rule of expressions with wider limits: it gives the same, or goes past the word of which there are too many.
-use Rattle.std.proofs.Common.{inl, inr, ◌≡◌, ℕ, zero, suc, ◌<◌, [], ◌∷◌, length, Option, Some, None, Ok, Err, Bool, true, false, cond, nat_lt, refl, sym, ap, subst, arith}
+use Rattle.std.proofs.Common.{inl, inr, ◌≡◌, ℕ, zero, suc, ◌<◌, [], ◌∷◌, length, Option, Some, None, Bool, true, false, cond, nat_lt, refl, ap, arith}
 use Rattle.std.proofs.lemmas.Bool.{ltb-true, lt-ltb}
 use Rattle.lara_data.specs.declared.expr.TwoOp.{TwoOp}
 use Rattle.lara_data.specs.declared.expr.FunOp.{FunOp}
@@ -10,21 +10,19 @@ use Rattle.lara_syntax.specs.declared.item.Lexeme.TheVariants as lex
 use Rattle.lara_syntax.specs.declared.item.Keyword.TheVariants as key
 use Rattle.lara_syntax.specs.declared.item.Sign.TheVariants.{Open, Close}
 use Rattle.lara_syntax.specs.declared.count.Count.{Count}
-use Rattle.lara_syntax.specs.declared.fault.Fault.TheVariants as faults
 use Rattle.lara_syntax.specs.declared.ast_expr.AstForm.TheVariants as form
 use Rattle.lara_syntax.specs.Limits.{one_sign, IsWithin}
 use Rattle.lara_syntax.specs.ExprGrammar.{expr_at, two_at, literal_form, fun_word}
 use Rattle.lara_syntax.specs.ExprReading as r
 use Rattle.lara_syntax.specs.ExprReading.{CountedExpr, ExprReader}
 use Rattle.lara_syntax.specs.WordReading.{sign, keyword, name, lit, next_as}
-use Rattle.lara_syntax.specs.Steps.{Items, Read, Reader, ◌>>=◌, give, refuse, skip, turns, head_word}
-use Rattle.lara_syntax.proofs.Turns.{read_of, erred}
+use Rattle.lara_syntax.specs.Steps.{Items, Reader, ◌>>=◌, give, refuse, skip, turns, head_word}
 use Rattle.lara_syntax.proofs.Readers.{IsReader, reads_bind, reads_give}
 use Rattle.lara_syntax.proofs.RuleReaders.{sign-reads, keyword-reads}
 use Rattle.lara_syntax.proofs.PlainRules.{sign-plain, keyword-plain, name-plain, lit-plain}
-use Rattle.lara_syntax.proofs.Wider.{LessCount, Fits, Past, Wider, Widens, always, past_read, wider_onward, widens_bind, widens_give, widens_plain, wider_of}
-use Rattle.lara_syntax.proofs.ExprReaders.{ReadEach, right_of, right_of-reads, joined-shortens, turns-reads, paired-reads, call_rest-reads, brackets_rest-reads, negated_rest-reads, branches_rest-reads, deeper_expr-reads, deeper_not-reads, atom-reads, product_with-reads, sum_with-reads, cat_with-reads, conjunction_with-reads, negation-reads}
-use Rattle.lara_syntax.proofs.ExprLoops.{chain-goes, chain-ends, chain-fails}
+use Rattle.lara_syntax.proofs.Wider.{LessCount, Wider, Widens, always, wider_onward, widens_bind, widens_give, widens_plain, wider_of}
+use Rattle.lara_syntax.proofs.WiderTurns.{some_of, turns_widen}
+use Rattle.lara_syntax.proofs.ExprReaders.{ReadEach, right_of, right_of-reads, some_of as given, operated-reads, operated-shorter, turns-reads, paired-reads, call_rest-reads, brackets_rest-reads, negated_rest-reads, branches_rest-reads, deeper_expr-reads, deeper_not-reads, atom-reads, product_with-reads, sum_with-reads, cat_with-reads, conjunction_with-reads, negation-reads}
 use Rattle.lara_syntax.proofs.ExprChains.{two_word, next_two-is}
 use Rattle.lara_syntax.proofs.ExprComplete.{Below, by_levels, deeper_expr-suc, deeper_not-suc}
 use Rattle.lara_syntax.proofs.ExprSound.{next_fun-is}
@@ -54,41 +52,19 @@ joined_widens limit more lt p q iq pw left le op ts w h =
     (λ at room. widens_bind (ExprWithin limit) (ExprWithin limit) (p (one_sign left.1)) (q (one_sign left.1)) (λ b. give (two_at at op left.0 b.0, b.1)) (λ b. give (two_at at op left.0 b.0, b.1)) (pw (one_sign left.1) (le.0, omega (arith, room))) (λ b hb. widens_give (ExprWithin limit) (two_at at op left.0 b.0, b.1) hb) (λ b. reads_give _))
     (right_of-reads q iq left op) (r.operator_sign limit left.1 ts) (r.operator_sign more left.1 ts) (sign_widens limit more left.1 lt le ts w h)
 
--- the turns that are left of a chain, with wider limits too
-abbrev RestWidens : ℕ → Count → Count → ExprReader → ExprReader → ℕ → Type 0
-RestWidens t limit more p q fuel = (left : CountedExpr) → ExprWithin limit left → (ts : Items) → length ts < fuel → Wider (ExprWithin limit) (turns (r.operated t limit p) left ts) (turns (r.operated t more q) left ts)
-
-same_turn : (t : ℕ) (limit more : Count) (p q : ExprReader) → ReadEach p → ReadEach q → (fuel : ℕ) → RestWidens t limit more p q fuel → (left : CountedExpr) (op : TwoOp) (o : Read CountedExpr) (ts : Items) → r.next_two t (head_word ts) ≡ Some op → r.joined limit p left op ts ≡ o → r.joined more q left op ts ≡ o → Fits (ExprWithin limit) o → length ts < suc fuel
-    → Wider (ExprWithin limit) (turns (r.operated t limit p) left ts) (turns (r.operated t more q) left ts)
-same_turn t limit more p q ip iq fuel next left op (Ok (x, m)) ts n h k fits lt =
-    wider_of (ExprWithin limit) (turns (r.operated t limit p) left ts) (turns (r.operated t limit p) x m) (turns (r.operated t more q) left ts) (turns (r.operated t more q) x m) (chain-goes t limit p ip left op ts x m n h) (chain-goes t more q iq left op ts x m n k)
-    (next x fits m (omega (arith, lt, joined-shortens limit p ip left op ts x m h)))
-same_turn t limit more p q ip iq fuel next left op (Err c) ts n h k fits lt =
-    wider_of (ExprWithin limit) (turns (r.operated t limit p) left ts) (erred c) (turns (r.operated t more q) left ts) (erred c) (chain-fails t limit p ip left op ts (faults.Stopped c) n h) (chain-fails t more q iq left op ts (faults.Stopped c) n k) (inl (refl, fits))
-
-past_turn : (t : ℕ) (more : Count) (q : ExprReader) → ReadEach q → (left : CountedExpr) (op : TwoOp) (n : ℕ) (o : Read CountedExpr) (ts : Items) → r.next_two t (head_word ts) ≡ Some op → r.joined more q left op ts ≡ o → Past n o → Past n (turns (r.operated t more q) left ts)
-past_turn t more q iq left op n (Ok (x, m)) ts e k lt = subst (λ (y : Read CountedExpr). Past n y) (sym (chain-goes t more q iq left op ts x m e k)) (past_read (turns (r.operated t more q) x) (turns-reads t more q iq x) n m lt (turns (r.operated t more q) x m) refl)
-past_turn t more q iq left op n (Err c) ts e k lt = subst (λ (y : Read CountedExpr). Past n y) (sym (chain-fails t more q iq left op ts (faults.Stopped c) e k)) lt
-
-turn_widens : (t : ℕ) (limit more : Count) (p q : ExprReader) → ReadEach p → ReadEach q → (fuel : ℕ) → RestWidens t limit more p q fuel → (left : CountedExpr) (op : TwoOp) (ts : Items) → r.next_two t (head_word ts) ≡ Some op → length ts < suc fuel → Wider (ExprWithin limit) (r.joined limit p left op ts) (r.joined more q left op ts)
-    → Wider (ExprWithin limit) (turns (r.operated t limit p) left ts) (turns (r.operated t more q) left ts)
-turn_widens t limit more p q ip iq fuel next left op ts n lt (inl h) = same_turn t limit more p q ip iq fuel next left op (r.joined limit p left op ts) ts n refl (sym h.0) h.1 lt
-turn_widens t limit more p q ip iq fuel next left op ts n lt (inr h) = inr (h.0, chain-fails t limit p ip left op ts (faults.Stopped h.0) n h.1, h.2, past_turn t more q iq left op (h.0).left (r.joined more q left op ts) ts n refl h.3)
-
-rest_by : (t : ℕ) (limit more : Count) → LessCount limit more → (p q : ExprReader) → ReadEach p → ReadEach q → PartWidens limit p q → (fuel : ℕ) → RestWidens t limit more p q fuel → (o : Option TwoOp) (left : CountedExpr) → ExprWithin limit left → (ts : Items) → r.next_two t (head_word ts) ≡ o → length ts < suc fuel
-    → Wider (ExprWithin limit) (turns (r.operated t limit p) left ts) (turns (r.operated t more q) left ts)
-rest_by t limit more less p q ip iq pw fuel next None left le ts n lt =
-    wider_of (ExprWithin limit) (turns (r.operated t limit p) left ts) (read_of left ts) (turns (r.operated t more q) left ts) (read_of left ts) (chain-ends t limit p ip left ts n) (chain-ends t more q iq left ts n) (inl (refl, le))
-rest_by t limit more less p q ip iq pw fuel next (Some op) left le ts n lt =
-    turn_widens t limit more p q ip iq fuel next left op ts n lt (joined_widens limit more less p q iq pw left le op ts (two_word op) (next_two-is t (head_word ts) op n).0)
-
-rest_widens : (t : ℕ) (limit more : Count) → LessCount limit more → (p q : ExprReader) → ReadEach p → ReadEach q → PartWidens limit p q → (fuel : ℕ) → RestWidens t limit more p q fuel
-rest_widens t limit more less p q ip iq pw zero left le ts lt = absurd (omega (arith, lt))
-rest_widens t limit more less p q ip iq pw (suc fuel) left le ts lt = rest_by t limit more less p q ip iq pw fuel (rest_widens t limit more less p q ip iq pw fuel) (r.next_two t (head_word ts)) left le ts refl lt
+operated_by_widens : (t : ℕ) (limit more : Count) → LessCount limit more → (p q : ExprReader) → ReadEach q → PartWidens limit p q → (o : Option TwoOp) (left : CountedExpr) → ExprWithin limit left → (ts : Items) → r.next_two t (head_word ts) ≡ o → Wider (some_of (ExprWithin limit)) (r.operated_by limit p left o ts) (r.operated_by more q left o ts)
+operated_by_widens t limit more less p q iq pw None left le ts n = inl (refl, tt)
+operated_by_widens t limit more less p q iq pw (Some op) left le ts n =
+    wider_onward (ExprWithin limit) (some_of (ExprWithin limit)) given given (λ x hx. widens_give (some_of (ExprWithin limit)) (Some x) hx) (λ x. reads_give (Some x)) (r.joined limit p left op ts) (r.joined more q left op ts)
+    (joined_widens limit more less p q iq pw left le op ts (two_word op) (next_two-is t (head_word ts) op n).0)
 
 chain_widens : (t : ℕ) (limit more : Count) → LessCount limit more → (p q : ExprReader) → ReadEach p → ReadEach q → PartWidens limit p q → PartWidens limit (r.chain t limit p) (r.chain t more q)
 chain_widens t limit more less p q ip iq pw taken le =
-    widens_bind (ExprWithin limit) (ExprWithin limit) (p taken) (q taken) (turns (r.operated t limit p)) (turns (r.operated t more q)) (pw taken le) (λ left hl ts. rest_widens t limit more less p q ip iq pw (suc (length ts)) left hl ts (omega arith)) (turns-reads t more q iq)
+    let step = r.operated t limit p in
+    let wide = r.operated t more q in
+    widens_bind (ExprWithin limit) (ExprWithin limit) (p taken) (q taken) (turns step) (turns wide) (pw taken le)
+    (turns_widen (ExprWithin limit) step wide (operated-shorter t limit p ip) (operated-shorter t more q iq) (operated-reads t more q iq) (λ left hl ts. operated_by_widens t limit more less p q iq pw (r.next_two t (head_word ts)) left hl ts refl))
+    (turns-reads t more q iq)
 
 pair_by_widens : (t : ℕ) (limit more : Count) → LessCount limit more → (p q : ExprReader) → ReadEach q → PartWidens limit p q → (o : Option TwoOp) (left : CountedExpr) → ExprWithin limit left → (ts : Items) → r.next_two t (head_word ts) ≡ o → Wider (ExprWithin limit) (r.pair_by limit p left o ts) (r.pair_by more q left o ts)
 pair_by_widens t limit more less p q iq pw None left le ts n = inl (refl, le)

@@ -44,6 +44,7 @@ pub mod ViableTurns
 pub mod ViableWords
 pub mod Wider
 pub mod WiderRules
+pub mod WiderTurns
 pub mod WordLaws
 pub mod WordReads
 pub mod WordTextLaws

@@ -22,9 +22,9 @@ use Rattle.lara_syntax.proofs.Readers.{IsReader, reads_bind, reads_give, reads_s
 use Rattle.lara_syntax.proofs.RuleReaders.{sign-reads, keyword-reads, name-reads, lit-reads}
 use Rattle.lara_syntax.proofs.Complete.{step, head_is}
 use Rattle.lara_syntax.proofs.SoundWords.{keyword_sound}
-use Rattle.lara_syntax.proofs.Viable.{IsViable, IsCase, Starts, case_viable, case_refuse, viable_bind, viable_give, viable_choice}
+use Rattle.lara_syntax.proofs.Viable.{same_end, viable_narrow, IsViable, IsCase, Starts, case_viable, case_refuse, viable_bind, viable_give, viable_choice}
 use Rattle.lara_syntax.proofs.ViableLoop.{Keeps, keeps_viable, keeps_none, keeps_choice, viable_item}
-use Rattle.lara_syntax.proofs.ViableTurns.{IsStep, turns_start, viable_turns}
+use Rattle.lara_syntax.proofs.ViableTurns.{IsTurn, turns_starts, viable_turns}
 use Rattle.lara_syntax.proofs.ViableWords.{name_spelled, a_name, any, token, viable_behind, Takes, quiet_takes, first_takes, sign_viable, sign_starts, keyword_viable, name_takes, name_viable, lit_takes, lit_viable}
 use Rattle.lara_syntax.proofs.ExprReaders.{ReadEach, right_of, right_of-reads, joined-shortens, some_of, operated-reads, operated-shorter, turns-reads, paired-reads, call_rest-reads, brackets_rest-reads, negated_rest-reads, branches_rest-reads, deeper_expr-reads, deeper_not-reads, atom-reads, product_with-reads, sum_with-reads, cat_with-reads, conjunction_with-reads, negation-reads}
 use Rattle.lara_syntax.proofs.ExprLoops.{chain-ends}
@@ -32,24 +32,7 @@ use Rattle.lara_syntax.proofs.ExprChains.{next_two-is, next_two-none, Looser, lo
 use Rattle.lara_syntax.proofs.ExprComplete.{Below, by_levels}
 use Rattle.lara_syntax.proofs.ExprWider.{second_branch, first_branch, second_branch-reads, first_branch-reads}
 
--- ---- less may follow
-
--- what is viable where more may follow
-pub viable_before : {A : Type 0} (F G : Option Lexeme → Type 0) (p : Reader A) → ((w : Option Lexeme) → F w → G w) → IsViable G p → IsViable F p
-viable_before F G p fg v = record {
-  stays = λ before u w x e after. v.stays before u w x e (fg (head_word w) after);
-  word = v.word;
-  spelled = v.spelled;
-  value = v.value;
-  says = λ w after. v.says w (fg (head_word w) after);
-  goes = λ ts d e.
-      let g = v.goes ts d e in
-      record { before = g.before; bad = g.bad; parts = g.parts; place = g.place; more = g.more; spelled = g.spelled; x = g.x; on = λ w after. g.on w (fg (head_word w) after) };
-}
-
--- what ends with a value, and it ends it
-same_end : {A : Type 0} (F : Option Lexeme → Type 0) (x : A) → Starts F F (give x)
-same_end F x ts y v e a = subst (λ q. F (head_word q)) (sym (rest_is x ts y v e)) a
+-- ---- what may follow
 
 -- p is viable, where what may follow binds less than so tightly
 abbrev pub PartViable : ℕ → ExprReader → Type 0
@@ -59,7 +42,7 @@ tighter : (t : ℕ) (w : Option Lexeme) → Looser t w → Looser (suc t) w
 tighter t w h = looser_than t (suc t) (omega arith) w h
 
 looser_viable : (t : ℕ) (p : ExprReader) → PartViable (suc t) p → PartViable t p
-looser_viable t p v taken = viable_before (Looser t) (Looser (suc t)) (p taken) (tighter t) (v taken)
+looser_viable t p v taken = viable_narrow (Looser t) (Looser (suc t)) (tighter t) (p taken) (v taken)
 
 -- ---- an operator and the part behind it
 
@@ -116,9 +99,9 @@ begins_by : (t : ℕ) (limit : Count) (p : ExprReader) (left : CountedExpr) (o :
 begins_by t limit p left None ts x u n e = absurd (none_some ts u x e)
 begins_by t limit p left (Some op) ts x u n e = operator_begins t (head_word ts) op n
 
-chain_step : (t : ℕ) (limit : Count) (p : ExprReader) → ReadEach p → PartViable (suc t) p → IsStep (Looser t) (Looser (suc t)) (r.operated t limit p)
+chain_step : (t : ℕ) (limit : Count) (p : ExprReader) → ReadEach p → PartViable (suc t) p → IsTurn (Looser t) (Looser (suc t)) (r.operated t limit p)
 chain_step t limit p ip vp = record {
-  short = operated-shorter t limit p ip;
+  shortens = operated-shorter t limit p ip;
   reader = operated-reads t limit p ip;
   ends = operated_ends t limit p;
   rests = λ left ts u e after. rests_by t limit p left (r.next_two t (head_word ts)) ts u refl e after;
@@ -130,7 +113,7 @@ chain_step t limit p ip vp = record {
 chain_viable : (t : ℕ) (limit : Count) (p : ExprReader) → ReadEach p → PartViable (suc t) p → PartViable t (r.chain t limit p)
 chain_viable t limit p ip vp taken =
     let s = chain_step t limit p ip vp in
-    viable_bind (Looser t) (Looser (suc t)) (p taken) (turns (r.operated t limit p)) (ip taken) (turns-reads t limit p ip) (vp taken) (viable_turns (Looser t) (Looser (suc t)) (r.operated t limit p) s) (λ left ts y v e after. turns_start (Looser t) (Looser (suc t)) (r.operated t limit p) s left y ts v e after)
+    viable_bind (Looser t) (Looser (suc t)) (p taken) (turns (r.operated t limit p)) (ip taken) (turns-reads t limit p ip) (vp taken) (viable_turns (Looser t) (Looser (suc t)) (r.operated t limit p) s) (λ left ts y v e after. turns_starts (Looser t) (Looser (suc t)) (r.operated t limit p) s left y ts v e after)
 
 pair_starts : (t : ℕ) (limit : Count) (p : ExprReader) (left : CountedExpr) (o : Option TwoOp) (ts : Items) (y : CountedExpr) (v : Items) → r.next_two t (head_word ts) ≡ o → r.pair_by limit p left o ts ≡ read_of y v → Looser t (head_word v) → Looser (suc t) (head_word ts)
 pair_starts t limit p left None ts y v n e after = tighter t (head_word ts) (subst (λ (q : Items). Looser t (head_word q)) (sym (rest_is left ts y v e)) after)

@@ -24,7 +24,7 @@ use Rattle.lara_syntax.proofs.Readers.{IsReader, reads_bind, reads_give, reads_s
 use Rattle.lara_syntax.proofs.RuleReaders.{comma-reads, comma-one}
 use Rattle.lara_syntax.proofs.Complete.{head_is, sign_reads, keyword_reads, NoComma, no_comma}
 use Rattle.lara_syntax.proofs.SoundWords.{sign_sound, keyword_sound, name_sound}
-use Rattle.lara_syntax.proofs.Viable.{Goes, IsViable, IsCase, Quiet, Starts, case_viable, case_refuse, viable_bind, viable_give, viable_choice}
+use Rattle.lara_syntax.proofs.Viable.{Goes, IsViable, IsCase, Quiet, Starts, same_end, viable_narrow, case_viable, case_refuse, viable_bind, viable_give, viable_choice}
 use Rattle.lara_syntax.proofs.ViableLoop.{Keeps, IsItem, viable_list, keeps_viable, keeps_none, keeps_choice, viable_item}
 
 -- ---- what may follow
@@ -195,19 +195,25 @@ second_takes p f reads takes ts y u e =
 -- ---- lists
 
 -- "," X behind its comma
-pub comma_rest_viable : {A : Type 0} (F : Option Lexeme → Type 0) (p : Reader A) → IsReader p → IsViable any p → (at : ℕ) → IsViable F (p >>= λ x. give (Some x))
-comma_rest_viable F p ip vp at = viable_bind F any p (λ x. give (Some x)) ip (λ x. reads_give _) vp (λ x. viable_give F _) (λ x ts y v e a. tt)
+pub comma_rest_viable : {A : Type 0} (F : Option Lexeme → Type 0) (p : Reader A) → IsReader p → IsViable F p → (at : ℕ) → IsViable F (p >>= λ x. give (Some x))
+comma_rest_viable F p ip vp at = viable_bind F F p (λ x. give (Some x)) ip (λ x. reads_give _) vp (λ x. viable_give F _) (λ x. same_end F _)
 
-pub comma_behind_viable : {A : Type 0} (F : Option Lexeme → Type 0) (p : Reader A) → IsReader p → IsViable any p → IsViable F (skip >>= λ at. p >>= λ x. give (Some x))
+pub comma_behind_viable : {A : Type 0} (F : Option Lexeme → Type 0) (p : Reader A) → IsReader p → IsViable F p → IsViable F (skip >>= λ at. p >>= λ x. give (Some x))
 comma_behind_viable F p ip vp = viable_behind F (λ at. p >>= λ x. give (Some x)) (λ at. reads_bind p (λ x. give (Some x)) ip (λ x. reads_give _)) (comma_rest_viable F p ip vp)
 
-pub comma_cases : {A : Type 0} (F : Option Lexeme → Type 0) (p : Reader A) → IsReader p → IsViable any p → (w : Option Lexeme) → IsCase F (words.comma_by p w)
+pub comma_cases : {A : Type 0} (F : Option Lexeme → Type 0) (p : Reader A) → IsReader p → IsViable F p → (w : Option Lexeme) → IsCase F (words.comma_by p w)
 comma_cases F p ip vp (Some (lex.Sign Comma)) = case_viable F _ (comma_behind_viable F p ip vp)
 comma_cases F p ip vp w = case_viable F (give None) (viable_give F None)
 
-pub comma_keeps : {A : Type 0} (p : Reader A) → IsReader p → IsViable any p → (w : Option Lexeme) → Keeps any (words.comma_by p w)
-comma_keeps p ip vp (Some (lex.Sign Comma)) = keeps_viable any _ (comma_behind_viable any p ip vp)
-comma_keeps p ip vp w = keeps_none any
+comma_keeps_by : {A : Type 0} (G : Option Lexeme → Type 0) (p : Reader A) → IsReader p → IsViable G p → (w : Option Lexeme) → Keeps G (words.comma_by p w)
+comma_keeps_by G p ip vp (Some (lex.Sign Comma)) = keeps_viable G _ (comma_behind_viable G p ip vp)
+comma_keeps_by G p ip vp w = keeps_none G
+
+pub comma_keeps : {A : Type 0} (G : Option Lexeme → Type 0) (p : Reader A) → IsReader p → IsViable G p → Keeps G (words.comma_then p)
+comma_keeps G p ip vp = keeps_choice G (words.comma_by p) (comma-one p ip) (comma_keeps_by G p ip vp)
+
+pub comma_viable : {A : Type 0} (F : Option Lexeme → Type 0) → ((w : Option Lexeme) → F w → NoComma w) → (p : Reader A) → IsReader p → IsViable F p → IsViable F (words.comma_then p)
+comma_viable F not_comma p ip vp = viable_item F (words.comma_by p) (comma-one p ip) (λ v after. no_comma p v (not_comma (head_word v) after)) (comma_cases F p ip vp)
 
 pub comma_item : {A : Type 0} (F : Option Lexeme → Type 0) → ((w : Option Lexeme) → F w → NoComma w) → (p : Reader A) → IsReader p → IsViable any p → IsItem F any (λ (ys : List A). words.comma_then p)
 comma_item F not_comma p ip vp = record {
@@ -217,8 +223,8 @@ comma_item F not_comma p ip vp = record {
   rests = λ ys ts u e after. tt;
   begins = λ ys ts x u e. tt;
   wide = λ w after. tt;
-  keeps = λ ys. keeps_choice any (words.comma_by p) (comma-one p ip) (comma_keeps p ip vp);
-  viable = λ ys. viable_item F (words.comma_by p) (comma-one p ip) (λ v after. no_comma p v (not_comma (head_word v) after)) (comma_cases F p ip vp);
+  keeps = λ ys. comma_keeps any p ip vp;
+  viable = λ ys. comma_viable F not_comma p ip (viable_narrow F any (λ w a. tt) p vp);
 }
 
 -- X { "," X }
