@@ -171,7 +171,7 @@ some_names_reads ns ts rest (just ms a c h) after =
 
 -- ---- columns
 
-key_col_reads : (x : AstKeyCol) (ts us : Items) → KeyCol x ts us → r.key_col ts ≡ read_of x us
+pub key_col_reads : (x : AstKeyCol) (ts us : Items) → KeyCol x ts us → r.key_col ts ≡ read_of x us
 unfolding r.key_col
 key_col_reads x ts us (key_col c n t a b d e h k l) = rw (name_reads n a b h, sign_reads Colon c b d k, key_type_reads t d e l) refl
 
@@ -192,7 +192,7 @@ some_key_cols_reads xs ts rest (just ys a c h) after =
     let n = key_cols_head ys a c h in
     chosen r.some_key_cols_by a (Some (lex.Name n.0)) (read_of ys c) n.1 (commas_reads KeyCol r.key_col key_col_reads comma_key_col-one ys a c h (next_no_comma (head_word c) Colon after tt))
 
-val_col_reads : (x : AstValCol) (ts us : Items) → ValCol x ts us → r.val_col ts ≡ read_of x us
+pub val_col_reads : (x : AstValCol) (ts us : Items) → ValCol x ts us → r.val_col ts ≡ read_of x us
 unfolding r.val_col
 val_col_reads x ts us (val_col c n t a b d e h k l) = rw (name_reads n a b h, sign_reads Colon c b d k, val_type_reads t d e l) refl
 

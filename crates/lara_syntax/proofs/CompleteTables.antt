@@ -7,13 +7,16 @@ use Rattle.lara_syntax.specs.declared.item.Lexeme.{Lexeme}
 use Rattle.lara_syntax.specs.declared.item.Lexeme.TheVariants as lex
 use Rattle.lara_syntax.specs.declared.item.Keyword.{Keyword}
 use Rattle.lara_syntax.specs.declared.item.Keyword.TheVariants as key
-use Rattle.lara_syntax.specs.declared.item.Sign.TheVariants.{Is, Semi, Open, Close}
+use Rattle.lara_syntax.specs.declared.item.Sign.TheVariants.{Is, Semi, Comma, Open, Close}
 use Rattle.lara_syntax.specs.declared.ast.Ast.{Ast}
 use Rattle.lara_syntax.specs.declared.ast.AstName.{AstName}
 use Rattle.lara_syntax.specs.declared.ast.AstBy.{AstBy}
 use Rattle.lara_syntax.specs.declared.ast.AstNode.{AstNode}
 use Rattle.lara_syntax.specs.declared.ast.AstOp.{AstOp}
 use Rattle.lara_syntax.specs.declared.ast.AstOp.TheVariants as op
+use Rattle.lara_syntax.specs.declared.ast_expr.AstExpr.{AstExpr}
+use Rattle.lara_syntax.specs.declared.ast_part.AstDef.{AstDef}
+use Rattle.lara_syntax.specs.declared.ast_part.AstKeyDef.{AstKeyDef}
 use Rattle.lara_syntax.specs.declared.ast_part.AstPair.{AstPair}
 use Rattle.lara_syntax.specs.declared.ast.AstStatement.{AstStatement}
 use Rattle.lara_syntax.specs.Limits.{Limits, none_counted, one_operator, together, IsWithin}
@@ -23,13 +26,76 @@ use Rattle.lara_syntax.specs.Steps.{Items, Read, Reader, ◌>>=◌, give, refuse
 use Rattle.lara_syntax.specs.Reading as r
 use Rattle.lara_syntax.specs.Places.{node}
 use Rattle.lara_syntax.specs.Reading.{Counted}
+use Rattle.lara_syntax.specs.WordReading as words
 use Rattle.lara_syntax.specs.WordReading.{sign}
-use Rattle.lara_syntax.specs.Grammar.{Pair, Leaf, named, load, literal, Operand, leaf, inside, Table, join, union, agg, rename, operand, SomeOrder, no_order, order, Statement, assign, print, Script}
-use Rattle.lara_syntax.specs.WordGrammar.{Word, Named, Many, none, more, Commas, Maybe}
+use Rattle.lara_syntax.specs.ExprGrammar.{Expr}
+use Rattle.lara_syntax.proofs.ExprChains.{Looser}
+use Rattle.lara_syntax.proofs.ExprComplete.{expr_reads}
+use Rattle.lara_syntax.specs.Grammar.{Pair, Def, def, MoreDefs, no_defs, more_defs, Defs, defs, KeyDef, key_def, Leaf, named, load, literal, Operand, leaf, inside, Table, join, union, agg, map, filter, promote, rename, operand, SomeOrder, no_order, order, Statement, assign, print, Script}
+use Rattle.lara_syntax.specs.WordGrammar.{Word, Mark, Named, Many, none, more, Commas, Maybe}
 use Rattle.lara_syntax.proofs.Levels.{inside_rest}
 use Rattle.lara_syntax.proofs.Turns.{read_of}
-use Rattle.lara_syntax.proofs.TableReaders.{has_room, next_behind, tree_given, statements-some, statements-none}
-use Rattle.lara_syntax.proofs.Complete.{head_is, skip_is, step, chosen, sign_reads, keyword_reads, name_reads, NoComma, AfterNames, some_names_reads, Next, pairs_reads, AfterTable, table_names, table_comma, leaf_reads}
+use Rattle.lara_syntax.proofs.TableReaders.{defs-some, defs-none, has_room, next_behind, tree_given, statements-some, statements-none}
+use Rattle.lara_syntax.proofs.Complete.{head_is, skip_is, step, chosen, sign_reads, keyword_reads, name_reads, NoComma, no_comma, key_col_reads, val_col_reads, AfterNames, some_names_reads, Next, pairs_reads, AfterTable, table_names, table_comma, leaf_reads}
+
+-- ---- definitions
+
+-- what may stand behind a definition
+abbrev pub AfterDef : Option Lexeme → Type 0
+AfterDef (Some (lex.Sign Comma)) = Unit {0}
+AfterDef (Some (lex.Sign Semi)) = Unit {0}
+AfterDef (Some (lex.Sign Close)) = Unit {0}
+AfterDef w = ⊥
+
+pub def_expr : (w : Option Lexeme) → AfterDef w → Looser 0 w
+def_expr (Some (lex.Sign Comma)) a = tt
+def_expr (Some (lex.Sign Semi)) a = tt
+def_expr (Some (lex.Sign Close)) a = tt
+def_expr w a = absurd a
+
+pub table_def : (w : Option Lexeme) → AfterTable w → AfterDef w
+table_def (Some (lex.Sign Semi)) a = tt
+table_def (Some (lex.Sign Close)) a = tt
+table_def w a = absurd a
+
+def_reads : (limit : Count) (d : ℕ) (n : Count) (x : AstDef) (ts us : Items) → Def d n x ts us → (k j : Count) → IsSum k n j → IsWithin j limit → AfterDef (head_word us) → r.def limit d k ts ≡ read_of (x, j) us
+unfolding r.def
+def_reads limit d n x ts us (def m at c e a b f g h i l) k j total le after = rw (val_col_reads c a b h, sign_reads Is at b f i, expr_reads limit d m e f g l k j total le (def_expr (head_word g) after)) refl
+
+comma_def_reads : (limit : Count) (d : ℕ) (n : Count) (at : ℕ) (x : AstDef) (ts us vs : Items) → Mark Comma at ts us → Def d n x us vs → (k j : Count) → IsSum k n j → IsWithin j limit → AfterDef (head_word vs) → r.comma_def limit d k ts ≡ read_of (Some (x, j)) vs
+unfolding r.comma_def
+comma_def_reads limit d n at x ts us vs h i k j total le after = chosen (words.comma_by (r.def limit d k)) ts (Some (lex.Sign Comma)) (read_of (Some (x, j)) vs) (head_is _ at ts us h) (rw (skip_is _ at ts us h, def_reads limit d n x us vs i k j total le after) refl)
+
+no_comma_def : (limit : Count) (d : ℕ) (k : Count) (ts : Items) → NoComma (head_word ts) → r.comma_def limit d k ts ≡ read_of None ts
+unfolding r.comma_def
+no_comma_def limit d k ts after = no_comma (r.def limit d k) ts after
+
+-- a definition, or what may stand behind a table, is next
+defs_begin : (d : ℕ) (n : Count) (xs : List AstDef) (ts rest : Items) → MoreDefs d n xs ts rest → AfterTable (head_word rest) → AfterDef (head_word ts)
+defs_begin d n xs ts rest (no_defs q) after = table_def (head_word q) after
+defs_begin d n xs ts rest (more_defs l m at x ys a b c q h i hs) after = subst AfterDef (sym (head_is _ at a b h)) tt
+
+defs_from_reads : (limit : Count) (d : ℕ) (n : Count) (xs : List AstDef) (ts rest : Items) → MoreDefs d n xs ts rest → AfterTable (head_word rest) → (acc : List AstDef) (k j : Count) → IsSum k n j → IsWithin j limit → r.defs_from limit d (acc, k) ts ≡ read_of (acc ++ xs, j) rest
+defs_from_reads limit d n xs ts rest (no_defs q) after acc k j total le =
+    defs-none limit d acc k q None q (no_comma_def limit d k q (table_comma (head_word q) after)) refl
+    ∙ ap (λ (ys : List AstDef). read_of (ys, k) q) (sym (append-nil acc)) ∙ ap (λ (i : Count). read_of (acc ++ [], i) q) (sum_none k j total)
+defs_from_reads limit d n xs ts rest (more_defs l m at x ys a b c q h i hs) after acc k j total le =
+    defs-some limit d acc k a (x, together k l) c (comma_def_reads limit d l at x a b c h i k (together k l) (refl, refl) (omega (arith, total.0, le.0), omega (arith, total.1, le.1)) (defs_begin d m ys c q hs after))
+    ∙ defs_from_reads limit d m ys c q hs after (acc ++ x ∷ []) (together k l) j (omega (arith, total.0), omega (arith, total.1)) le
+    ∙ ap (λ (zs : List AstDef). read_of (zs, j) q) (append_assoc acc (x ∷ []) ys)
+
+defs_reads : (limit : Count) (d : ℕ) (n : Count) (xs : List AstDef) (ts rest : Items) → Defs d n xs ts rest → (k j : Count) → IsSum k n j → IsWithin j limit → AfterTable (head_word rest) → r.defs limit d k ts ≡ read_of (xs, j) rest
+unfolding r.defs
+defs_reads limit d n xs ts rest (defs l m x ys a b c h hs) k j total le after =
+    step (r.def limit d k) (λ y. r.defs_from limit d (y.0 ∷ [], y.1)) a (x, together k l) b (read_of (x ∷ ys, j) c)
+    (def_reads limit d l x a b h k (together k l) (refl, refl) (omega (arith, total.0, le.0), omega (arith, total.1, le.1)) (defs_begin d m ys b c hs after))
+    (defs_from_reads limit d m ys b c hs after (x ∷ []) (together k l) j (omega (arith, total.0), omega (arith, total.1)) le)
+
+key_def_reads : (limit : Count) (d : ℕ) (n : Count) (x : AstKeyDef) (ts us : Items) → KeyDef d n x ts us → (k j : Count) → IsSum k n j → IsWithin j limit → AfterDef (head_word us) → r.key_def limit d k ts ≡ read_of (x, j) us
+unfolding r.key_def
+key_def_reads limit d n x ts us (key_def m at c e a b f g h i l) k j total le after = rw (key_col_reads c a b h, sign_reads Is at b f i, expr_reads limit d m e f g l k j total le (def_expr (head_word g) after)) refl
+
+-- ---- operands and tables
 
 -- what a choice does where a leaf is next
 leaf_chosen : {A : Type 0} (by : Option Lexeme → Reader A) (x : AstNode) (ts us : Items) → Leaf x ts us → (y : Read A)
@@ -60,14 +126,23 @@ two_goes what o k i j at a b ts us vs h g =
     (step (o i) (λ y. give (node at (what a y.0), y.1)) us (b, j) vs (read_of (node at (what a b), j) vs) g refl)
 
 -- an operator with one operand
-one_reads : (limit k : Count) (w : Keyword) (rest : ℕ → Counted → Reader Counted) (o : Count → Reader Counted) (at : ℕ) (a : Counted) (t1 t2 t3 : Items) (y : Read Counted) → Word (lex.Key w) at t1 t2 → k.operators < limit.operators → o (one_operator k) t2 ≡ read_of a t3 → rest at a t3 ≡ y
-    → r.table_by limit o k (Some (lex.Key w)) t1 ≡ (r.operator_word limit k >>= r.one_by rest o k) t1 → (peek >>= r.table_by limit o k) t1 ≡ y
-one_reads limit k w rest o at a t1 t2 t3 y h lt read g by =
-    chosen (r.table_by limit o k) t1 (Some (lex.Key w)) y (head_is _ at t1 t2 h)
+one_reads : (limit : Count) (levels : ℕ) (k : Count) (w : Keyword) (rest : ℕ → Counted → Reader Counted) (o : Count → Reader Counted) (at : ℕ) (a : Counted) (t1 t2 t3 : Items) (y : Read Counted) → Word (lex.Key w) at t1 t2 → k.operators < limit.operators → o (one_operator k) t2 ≡ read_of a t3 → rest at a t3 ≡ y
+    → r.table_by limit levels o k (Some (lex.Key w)) t1 ≡ (r.operator_word limit k >>= r.one_by rest o k) t1 → (peek >>= r.table_by limit levels o k) t1 ≡ y
+one_reads limit levels k w rest o at a t1 t2 t3 y h lt read g by =
+    chosen (r.table_by limit levels o k) t1 (Some (lex.Key w)) y (head_is _ at t1 t2 h)
     (by ∙ operator_goes limit k _ at t1 t2 h lt (r.one_by rest o k) y (step (o (one_operator k)) (rest at) t2 a t3 y read g))
 
 agg_rest_reads : (at by : ℕ) (a : Counted) (ns : List AstName) (us vs rest : Items) → Word (lex.Key key.By) by us vs → Maybe (Commas Named) ns vs rest → AfterNames (head_word rest) → r.agg_rest at a us ≡ read_of (node at (op.Agg a.0 ns), a.1) rest
 agg_rest_reads at by a ns us vs rest h k after = rw (keyword_reads key.By by us vs h, some_names_reads ns vs rest k after) refl
+
+map_rest_reads : (limit : Count) (d : ℕ) (n : Count) (at to : ℕ) (a : Counted) (ds : List AstDef) (j : Count) (us vs rest : Items) → Word (lex.Key key.To) to us vs → Defs d n ds vs rest → IsSum a.1 n j → IsWithin j limit → AfterTable (head_word rest) → r.map_rest limit d at a us ≡ read_of (node at (op.Map a.0 ds), j) rest
+map_rest_reads limit d n at to a ds j us vs rest h hs total le after = rw (keyword_reads key.To to us vs h, defs_reads limit d n ds vs rest hs a.1 j total le after) refl
+
+filter_rest_reads : (limit : Count) (d : ℕ) (n : Count) (at wh : ℕ) (a : Counted) (e : AstExpr) (j : Count) (us vs rest : Items) → Word (lex.Key key.Where) wh us vs → Expr d n e vs rest → IsSum a.1 n j → IsWithin j limit → AfterTable (head_word rest) → r.filter_rest limit d at a us ≡ read_of (node at (op.Filter a.0 e), j) rest
+filter_rest_reads limit d n at wh a e j us vs rest h hs total le after = rw (keyword_reads key.Where wh us vs h, expr_reads limit d n e vs rest hs a.1 j total le (def_expr (head_word rest) (table_def (head_word rest) after))) refl
+
+promote_rest_reads : (limit : Count) (d : ℕ) (n : Count) (at to : ℕ) (a : Counted) (c : AstKeyDef) (j : Count) (us vs rest : Items) → Word (lex.Key key.To) to us vs → KeyDef d n c vs rest → IsSum a.1 n j → IsWithin j limit → AfterTable (head_word rest) → r.promote_rest limit d at a us ≡ read_of (node at (op.Promote a.0 c), j) rest
+promote_rest_reads limit d n at to a c j us vs rest h hs total le after = rw (keyword_reads key.To to us vs h, key_def_reads limit d n c vs rest hs a.1 j total le (table_def (head_word rest) after)) refl
 
 rename_rest_reads : (at : ℕ) (a : Counted) (ps : List AstPair) (us rest : Items) → Commas Pair ps us rest → NoComma (head_word rest) → r.rename_rest at a us ≡ read_of (node at (op.Rename a.0 ps), a.1) rest
 rename_rest_reads at a ps us rest h after = rw (pairs_reads ps us rest h after) refl
@@ -89,22 +164,34 @@ mutual
 
   table_reads : (limit : Count) (d : ℕ) (n : Count) (x : AstNode) (ts us : Items) → Table d n x ts us → (k j : Count) → IsSum k n j → IsWithin j limit → AfterTable (head_word us) → r.table limit d k ts ≡ read_of (x, j) us
   table_reads limit d n x ts us (join e l m at a b t1 t2 t3 t4 h1 h2 h3) k j total le after =
-      chosen (r.table_by limit (r.operand limit e) k) t1 (Some (lex.Key key.Join)) (read_of _ t4) (head_is _ at t1 t2 h1)
+      chosen (r.table_by limit e (r.operand limit e) k) t1 (Some (lex.Key key.Join)) (read_of _ t4) (head_is _ at t1 t2 h1)
       (operator_goes limit k _ at t1 t2 h1 (omega (arith, total.0, le.0)) (r.two_by op.Join (r.operand limit e) k) (read_of _ t4)
       (two_goes op.Join (r.operand limit e) k (together (one_operator k) l) j at a b t2 t3 t4 (operand_reads limit e l a t2 t3 h2 (one_operator k) (together (one_operator k) l) (refl, refl) (omega (arith, total.0, le.0), omega (arith, total.1, le.1))) (operand_reads limit e m b t3 t4 h3 (together (one_operator k) l) j (omega (arith, total.0), omega (arith, total.1)) le)))
   table_reads limit d n x ts us (union e l m at a b t1 t2 t3 t4 h1 h2 h3) k j total le after =
-      chosen (r.table_by limit (r.operand limit e) k) t1 (Some (lex.Key key.Union)) (read_of _ t4) (head_is _ at t1 t2 h1)
+      chosen (r.table_by limit e (r.operand limit e) k) t1 (Some (lex.Key key.Union)) (read_of _ t4) (head_is _ at t1 t2 h1)
       (operator_goes limit k _ at t1 t2 h1 (omega (arith, total.0, le.0)) (r.two_by op.Union (r.operand limit e) k) (read_of _ t4)
       (two_goes op.Union (r.operand limit e) k (together (one_operator k) l) j at a b t2 t3 t4 (operand_reads limit e l a t2 t3 h2 (one_operator k) (together (one_operator k) l) (refl, refl) (omega (arith, total.0, le.0), omega (arith, total.1, le.1))) (operand_reads limit e m b t3 t4 h3 (together (one_operator k) l) j (omega (arith, total.0), omega (arith, total.1)) le)))
   table_reads limit d n x ts us (agg e m at by a ns t1 t2 t3 t4 t5 h1 h2 h3 h4) k j total le after =
-      one_reads limit k key.Agg r.agg_rest (r.operand limit e) at (a, j) t1 t2 t3 (read_of _ t5) h1 (omega (arith, total.0, le.0)) (operand_reads limit e m a t2 t3 h2 (one_operator k) j (omega (arith, total.0), omega (arith, total.1)) le)
+      one_reads limit e k key.Agg r.agg_rest (r.operand limit e) at (a, j) t1 t2 t3 (read_of _ t5) h1 (omega (arith, total.0, le.0)) (operand_reads limit e m a t2 t3 h2 (one_operator k) j (omega (arith, total.0), omega (arith, total.1)) le)
       (agg_rest_reads at by (a, j) ns t3 t4 t5 h3 h4 (table_names (head_word t5) after)) refl
+  table_reads limit d n x ts us (map e l m at wh a ds t1 t2 t3 t4 t5 h1 h2 h3 h4) k j total le after =
+      one_reads limit e k key.Map (r.map_rest limit e) (r.operand limit e) at (a, together (one_operator k) l) t1 t2 t3 (read_of _ t5) h1 (omega (arith, total.0, le.0))
+      (operand_reads limit e l a t2 t3 h2 (one_operator k) (together (one_operator k) l) (refl, refl) (omega (arith, total.0, le.0), omega (arith, total.1, le.1)))
+      (map_rest_reads limit e m at wh (a, together (one_operator k) l) ds j t3 t4 t5 h3 h4 (omega (arith, total.0), omega (arith, total.1)) le after) refl
+  table_reads limit d n x ts us (filter e l m at wh a y t1 t2 t3 t4 t5 h1 h2 h3 h4) k j total le after =
+      one_reads limit e k key.Filter (r.filter_rest limit e) (r.operand limit e) at (a, together (one_operator k) l) t1 t2 t3 (read_of _ t5) h1 (omega (arith, total.0, le.0))
+      (operand_reads limit e l a t2 t3 h2 (one_operator k) (together (one_operator k) l) (refl, refl) (omega (arith, total.0, le.0), omega (arith, total.1, le.1)))
+      (filter_rest_reads limit e m at wh (a, together (one_operator k) l) y j t3 t4 t5 h3 h4 (omega (arith, total.0), omega (arith, total.1)) le after) refl
+  table_reads limit d n x ts us (promote e l m at wh a c t1 t2 t3 t4 t5 h1 h2 h3 h4) k j total le after =
+      one_reads limit e k key.Promote (r.promote_rest limit e) (r.operand limit e) at (a, together (one_operator k) l) t1 t2 t3 (read_of _ t5) h1 (omega (arith, total.0, le.0))
+      (operand_reads limit e l a t2 t3 h2 (one_operator k) (together (one_operator k) l) (refl, refl) (omega (arith, total.0, le.0), omega (arith, total.1, le.1)))
+      (promote_rest_reads limit e m at wh (a, together (one_operator k) l) c j t3 t4 t5 h3 h4 (omega (arith, total.0), omega (arith, total.1)) le after) refl
   table_reads limit d n x ts us (rename e m at a ps t1 t2 t3 t4 h1 h2 h3) k j total le after =
-      one_reads limit k key.Rename r.rename_rest (r.operand limit e) at (a, j) t1 t2 t3 (read_of _ t4) h1 (omega (arith, total.0, le.0)) (operand_reads limit e m a t2 t3 h2 (one_operator k) j (omega (arith, total.0), omega (arith, total.1)) le)
+      one_reads limit e k key.Rename r.rename_rest (r.operand limit e) at (a, j) t1 t2 t3 (read_of _ t4) h1 (omega (arith, total.0, le.0)) (operand_reads limit e m a t2 t3 h2 (one_operator k) j (omega (arith, total.0), omega (arith, total.1)) le)
       (rename_rest_reads at (a, j) ps t3 t4 h3 (table_comma (head_word t4) after)) refl
   table_reads limit d n x ts us (operand e m y a b h) k j total le after =
       let read = operand_reads limit e m y a b h k j total le in
-      operand_chosen (r.table_by limit (r.operand limit e) k) e m y a b h (read_of (y, j) b) (λ q. read) read read read
+      operand_chosen (r.table_by limit e (r.operand limit e) k) e m y a b h (read_of (y, j) b) (λ q. read) read read read
 
 -- ---- statements
 

@@ -23,3 +23,7 @@ pub record Counts {A : Type 0} (X : Count → A → Items → Items → Type 0) 
   pub total : IsSum taken n x.1
   pub within : IsWithin x.1 limit
   pub stands : X n x.0 ts u
+
+-- a value behind which no more is counted than this
+abbrev pub AreWithin : {A : Type 0} → Count → A × Count → Type 0
+AreWithin limit x = IsWithin x.1 limit

@@ -75,8 +75,11 @@ operated_by-shorter limit p ip left (Some op) ts x u e =
 pub operated-shorter : (tightly : ℕ) (limit : Count) (p : ExprReader) → ReadEach p → Shortens (r.operated tightly limit p)
 operated-shorter tightly limit p ip = record { shorter = λ left ts x u e. operated_by-shorter limit p ip left (r.next_two tightly (head_word ts)) ts x u e }
 
+pub turns-reads : (tightly : ℕ) (limit : Count) (p : ExprReader) → ReadEach p → (left : CountedExpr) → IsReader (turns (r.operated tightly limit p) left)
+turns-reads tightly limit p ip left = reads_turns (r.operated tightly limit p) (operated-shorter tightly limit p ip) (operated-reads tightly limit p ip) left
+
 pub chain-reads : (tightly : ℕ) (limit : Count) (p : ExprReader) → ReadEach p → ReadEach (r.chain tightly limit p)
-chain-reads tightly limit p ip taken = reads_bind (p taken) (turns (r.operated tightly limit p)) (ip taken) (reads_turns (r.operated tightly limit p) (operated-shorter tightly limit p ip) (operated-reads tightly limit p ip))
+chain-reads tightly limit p ip taken = reads_bind (p taken) (turns (r.operated tightly limit p)) (ip taken) (turns-reads tightly limit p ip)
 
 pair_by-reads : (limit : Count) (p : ExprReader) → ReadEach p → (left : CountedExpr) (o : Option TwoOp) → IsReader (r.pair_by limit p left o)
 pair_by-reads limit p ip left None = reads_give left

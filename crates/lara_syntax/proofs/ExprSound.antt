@@ -21,7 +21,7 @@ use Rattle.lara_syntax.specs.ExprReading as r
 use Rattle.lara_syntax.specs.ExprReading.{CountedExpr, ExprReader, binding}
 use Rattle.lara_syntax.specs.WordReading.{sign, keyword, name, lit, next_as}
 use Rattle.lara_syntax.specs.Steps.{Items, Read, ◌>>=◌, give, refuse, skip, turns, head_word}
-use Rattle.lara_syntax.proofs.Counts.{IsSum}
+use Rattle.lara_syntax.proofs.Counts.{Counts}
 use Rattle.lara_syntax.proofs.Turns.{read_of, err_ok}
 use Rattle.lara_syntax.proofs.Readers.{bind_ok}
 use Rattle.lara_syntax.proofs.SoundWords.{give_to, some_is, word_taken, sign_sound, keyword_sound, name_sound, lit_sound}
@@ -30,16 +30,9 @@ use Rattle.lara_syntax.proofs.ExprLoops.{chain-goes, chain-ends, chain-fails}
 use Rattle.lara_syntax.proofs.ExprChains.{two_word, next_two-is, Part, Chain, one, more, Pair, alone, both, Within, chain_prod, chain_sum, chain_cat, pair_cmp, chain_and, chain_or}
 use Rattle.lara_syntax.proofs.ExprComplete.{Below, by_levels, deeper_expr-suc, deeper_not-suc}
 
--- an expression with its operators, which are in the count
-pub record ExprCounts (X : Part) (limit taken : Count) (x : CountedExpr) (ts u : Items) : Type 0 where
-  pub n : Count
-  pub total : IsSum taken n x.1
-  pub within : IsWithin x.1 limit
-  pub stands : X n x.0 ts u
-
 -- what p reads is of X
 abbrev pub PartSound : Part → Count → ExprReader → Type 0
-PartSound X limit p = (taken : Count) → IsWithin taken limit → (ts : Items) (x : CountedExpr) (u : Items) → p taken ts ≡ read_of x u → ExprCounts X limit taken x ts u
+PartSound X limit p = (taken : Count) → IsWithin taken limit → (ts : Items) (x : CountedExpr) (u : Items) → p taken ts ≡ read_of x u → Counts X limit taken x ts u
 
 sound_within : (X Y : Part) (limit : Count) (p : ExprReader) → Within X Y → PartSound X limit p → PartSound Y limit p
 sound_within X Y limit p w h taken le ts x u e =
@@ -60,7 +53,7 @@ abbrev Joins : ℕ → Part → Part → Part → Type 0
 Joins tightly Y X Z = (m n : Count) (at : ℕ) (op : TwoOp) (a b : AstExpr) (t1 t2 t3 rest : Items) → binding op ≡ tightly → Y m a t1 t2 → Word (two_word op) at t2 t3 → X n b t3 rest → Z (one_sign (together m n)) (two_at at op a b) t1 rest
 
 joined_sound : (tightly : ℕ) (X Y Z : Part) (limit : Count) (p : ExprReader) → PartSound X limit p → Joins tightly Y X Z → (taken : Count) (left : CountedExpr) (op : TwoOp) (ts0 ts : Items) (x : CountedExpr) (u : Items)
-    → ExprCounts Y limit taken left ts0 ts → r.next_two tightly (head_word ts) ≡ Some op → r.joined limit p left op ts ≡ read_of x u → ExprCounts Z limit taken x ts0 u
+    → Counts Y limit taken left ts0 ts → r.next_two tightly (head_word ts) ≡ Some op → r.joined limit p left op ts ≡ read_of x u → Counts Z limit taken x ts0 u
 joined_sound tightly X Y Z limit p ps joins taken left op ts0 ts x u before next e =
     let i = next_two-is tightly (head_word ts) op next in
     let w = bind_ok (r.operator_sign limit left.1 ts) (right_of p left op) (x, u) e in
@@ -68,7 +61,7 @@ joined_sound tightly X Y Z limit p ps joins taken left op ts0 ts x u before next
     let f = bind_ok (p (one_sign left.1) w.1) (λ right. give (two_at w.0 op left.0 right.0, right.1)) (x, u) w.3 in
     let b = f.0 in
     let second = ps (one_sign left.1) (before.within.0, omega (arith, word.0)) w.1 b f.1 f.2 in
-    give_to (λ y q. ExprCounts Z limit taken y ts0 q) (two_at w.0 op left.0 b.0, b.1) f.1 x u f.3
+    give_to (λ y q. Counts Z limit taken y ts0 q) (two_at w.0 op left.0 b.0, b.1) f.1 x u f.3
     (record {
       n = one_sign (together before.n second.n);
       total = (omega (arith, before.total.0, second.total.0), omega (arith, before.total.1, second.total.1));
@@ -78,11 +71,11 @@ joined_sound tightly X Y Z limit p ps joins taken left op ts0 ts x u before next
 
 -- what is left of a chain
 abbrev RestSound : ℕ → Part → Count → ExprReader → ℕ → Type 0
-RestSound tightly X limit p fuel = (taken : Count) (left : CountedExpr) (ts0 ts : Items) (x : CountedExpr) (u : Items) → length ts < fuel → ExprCounts (Chain tightly X) limit taken left ts0 ts → turns (r.operated tightly limit p) left ts ≡ read_of x u → ExprCounts (Chain tightly X) limit taken x ts0 u
+RestSound tightly X limit p fuel = (taken : Count) (left : CountedExpr) (ts0 ts : Items) (x : CountedExpr) (u : Items) → length ts < fuel → Counts (Chain tightly X) limit taken left ts0 ts → turns (r.operated tightly limit p) left ts ≡ read_of x u → Counts (Chain tightly X) limit taken x ts0 u
 
 turn_sound : (tightly : ℕ) (X : Part) (limit : Count) (p : ExprReader) → ReadEach p → PartSound X limit p → (fuel : ℕ) → RestSound tightly X limit p fuel
     → (taken : Count) (left : CountedExpr) (op : TwoOp) (q : Read CountedExpr) (ts0 ts : Items) (x : CountedExpr) (u : Items) → r.next_two tightly (head_word ts) ≡ Some op → r.joined limit p left op ts ≡ q → length ts < suc fuel
-    → ExprCounts (Chain tightly X) limit taken left ts0 ts → turns (r.operated tightly limit p) left ts ≡ read_of x u → ExprCounts (Chain tightly X) limit taken x ts0 u
+    → Counts (Chain tightly X) limit taken left ts0 ts → turns (r.operated tightly limit p) left ts ≡ read_of x u → Counts (Chain tightly X) limit taken x ts0 u
 turn_sound tightly X limit p ip ps fuel next taken left op (Ok (y, m)) ts0 ts x u n j lt before e =
     next taken y ts0 m x u (omega (arith, lt, joined-shortens limit p ip left op ts y m j))
     (joined_sound tightly X (Chain tightly X) (Chain tightly X) limit p ps (more) taken left op ts0 ts y m before n j)
@@ -92,9 +85,9 @@ turn_sound tightly X limit p ip ps fuel next taken left op (Err d) ts0 ts x u n 
 
 rest_by : (tightly : ℕ) (X : Part) (limit : Count) (p : ExprReader) → ReadEach p → PartSound X limit p → (fuel : ℕ) → RestSound tightly X limit p fuel
     → (o : Option TwoOp) (taken : Count) (left : CountedExpr) (ts0 ts : Items) (x : CountedExpr) (u : Items) → r.next_two tightly (head_word ts) ≡ o → length ts < suc fuel
-    → ExprCounts (Chain tightly X) limit taken left ts0 ts → turns (r.operated tightly limit p) left ts ≡ read_of x u → ExprCounts (Chain tightly X) limit taken x ts0 u
+    → Counts (Chain tightly X) limit taken left ts0 ts → turns (r.operated tightly limit p) left ts ≡ read_of x u → Counts (Chain tightly X) limit taken x ts0 u
 rest_by tightly X limit p ip ps fuel next None taken left ts0 ts x u n lt before e =
-    give_to (λ y q. ExprCounts (Chain tightly X) limit taken y ts0 q) left ts x u (sym (chain-ends tightly limit p ip left ts n) ∙ e) before
+    give_to (λ y q. Counts (Chain tightly X) limit taken y ts0 q) left ts x u (sym (chain-ends tightly limit p ip left ts n) ∙ e) before
 rest_by tightly X limit p ip ps fuel next (Some op) taken left ts0 ts x u n lt before e =
     turn_sound tightly X limit p ip ps fuel next taken left op (r.joined limit p left op ts) ts0 ts x u n refl lt before e
 
@@ -102,7 +95,7 @@ rest_sound : (tightly : ℕ) (X : Part) (limit : Count) (p : ExprReader) → Rea
 rest_sound tightly X limit p ip ps zero taken left ts0 ts x u lt before e = absurd (omega (arith, lt))
 rest_sound tightly X limit p ip ps (suc fuel) taken left ts0 ts x u lt before e = rest_by tightly X limit p ip ps fuel (rest_sound tightly X limit p ip ps fuel) (r.next_two tightly (head_word ts)) taken left ts0 ts x u refl lt before e
 
-lone_sound : (X Y : Part) (limit taken : Count) (x : CountedExpr) (ts u : Items) → Within X Y → ExprCounts X limit taken x ts u → ExprCounts Y limit taken x ts u
+lone_sound : (X Y : Part) (limit taken : Count) (x : CountedExpr) (ts u : Items) → Within X Y → Counts X limit taken x ts u → Counts Y limit taken x ts u
 lone_sound X Y limit taken x ts u w s = record { n = s.n; total = s.total; within = s.within; stands = w s.n x.0 ts u s.stands }
 
 chain_sound : (tightly : ℕ) (X : Part) (limit : Count) (p : ExprReader) → ReadEach p → PartSound X limit p → PartSound (Chain tightly X) limit (r.chain tightly limit p)
@@ -112,9 +105,9 @@ chain_sound tightly X limit p ip ps taken le ts x u e =
     rest_sound tightly X limit p ip ps (suc (length a.1)) taken a.0 ts a.1 x u (omega arith) first a.3
 
 pair_by_sound : (tightly : ℕ) (X : Part) (limit : Count) (p : ExprReader) → PartSound X limit p → (taken : Count) (left : CountedExpr) (o : Option TwoOp) (ts0 ts : Items) (x : CountedExpr) (u : Items)
-    → r.next_two tightly (head_word ts) ≡ o → ExprCounts X limit taken left ts0 ts → r.pair_by limit p left o ts ≡ read_of x u → ExprCounts (Pair tightly X) limit taken x ts0 u
+    → r.next_two tightly (head_word ts) ≡ o → Counts X limit taken left ts0 ts → r.pair_by limit p left o ts ≡ read_of x u → Counts (Pair tightly X) limit taken x ts0 u
 pair_by_sound tightly X limit p ps taken left None ts0 ts x u n before e =
-    give_to (λ y q. ExprCounts (Pair tightly X) limit taken y ts0 q) left ts x u e (lone_sound X (Pair tightly X) limit taken left ts0 ts (alone) before)
+    give_to (λ y q. Counts (Pair tightly X) limit taken y ts0 q) left ts x u e (lone_sound X (Pair tightly X) limit taken left ts0 ts (alone) before)
 pair_by_sound tightly X limit p ps taken left (Some op) ts0 ts x u n before e = joined_sound tightly X X (Pair tightly X) limit p ps (both) taken left op ts0 ts x u before n e
 
 pair_sound : (tightly : ℕ) (X : Part) (limit : Count) (p : ExprReader) → PartSound X limit p → PartSound (Pair tightly X) limit (r.pair tightly limit p)
@@ -142,10 +135,10 @@ inner_not_sound limit d e same below taken le ts x u h =
     (below e same).1 taken le ts x u (sym (deeper_not-suc limit e taken ts) ∙ ap (λ (q : ℕ). r.deeper_not limit q taken ts) (sym same) ∙ h)
 
 -- with one level less
-at_level : (X : ℕ → Part) (limit taken : Count) (d e : ℕ) (x : CountedExpr) (ts u : Items) → d ≡ suc e → ExprCounts (X (suc e)) limit taken x ts u → ExprCounts (X d) limit taken x ts u
-at_level X limit taken d e x ts u same s = subst (λ (q : ℕ). ExprCounts (X q) limit taken x ts u) (sym same) s
+at_level : (X : ℕ → Part) (limit taken : Count) (d e : ℕ) (x : CountedExpr) (ts u : Items) → d ≡ suc e → Counts (X (suc e)) limit taken x ts u → Counts (X d) limit taken x ts u
+at_level X limit taken d e x ts u same s = subst (λ (q : ℕ). Counts (X q) limit taken x ts u) (sym same) s
 
-call_sound : (limit : Count) (d : ℕ) → Below (LevelSound limit) d → (f : FunOp) → (taken : Count) → IsWithin taken limit → (ts : Items) (x : CountedExpr) (u : Items) → head_word ts ≡ Some (lex.Key (fun_word f)) → r.call f d (r.deeper_expr limit d) taken ts ≡ read_of x u → ExprCounts (Atom d) limit taken x ts u
+call_sound : (limit : Count) (d : ℕ) → Below (LevelSound limit) d → (f : FunOp) → (taken : Count) → IsWithin taken limit → (ts : Items) (x : CountedExpr) (u : Items) → head_word ts ≡ Some (lex.Key (fun_word f)) → r.call f d (r.deeper_expr limit d) taken ts ≡ read_of x u → Counts (Atom d) limit taken x ts u
 call_sound limit d below f taken le ts x u h e =
     let i = r.deeper_expr limit d in
     let a = bind_ok (r.opening d ts) (r.call_rest f i taken) (x, u) e in
@@ -157,10 +150,10 @@ call_sound limit d below f taken le ts x u h e =
     let k = bind_ok (sign Close c.1) (λ end. give (expr_at at (form.Fun f y.0), y.1)) (x, u) c.3 in
     let inner = inner_sound limit d o.0 o.1 below taken le b.1 y c.1 c.2 in
     at_level Atom limit taken d o.0 x ts u o.1
-    (give_to (λ z q. ExprCounts (Atom (suc o.0)) limit taken z ts q) (expr_at at (form.Fun f y.0), y.1) k.1 x u k.3
+    (give_to (λ z q. Counts (Atom (suc o.0)) limit taken z ts q) (expr_at at (form.Fun f y.0), y.1) k.1 x u k.3
     (record { n = inner.n; total = inner.total; within = inner.within; stands = g.function o.0 inner.n at b.0 k.0 f y.0 ts a.1 b.1 c.1 k.1 o.2 (sign_sound Open a.1 b.0 b.1 b.2) inner.stands (sign_sound Close c.1 k.0 k.1 k.2) }))
 
-brackets_sound : (limit : Count) (d : ℕ) → Below (LevelSound limit) d → (taken : Count) → IsWithin taken limit → (ts : Items) (x : CountedExpr) (u : Items) → head_word ts ≡ Some (lex.Sign Open) → r.brackets d (r.deeper_expr limit d) taken ts ≡ read_of x u → ExprCounts (Atom d) limit taken x ts u
+brackets_sound : (limit : Count) (d : ℕ) → Below (LevelSound limit) d → (taken : Count) → IsWithin taken limit → (ts : Items) (x : CountedExpr) (u : Items) → head_word ts ≡ Some (lex.Sign Open) → r.brackets d (r.deeper_expr limit d) taken ts ≡ read_of x u → Counts (Atom d) limit taken x ts u
 brackets_sound limit d below taken le ts x u h e =
     let i = r.deeper_expr limit d in
     let a = bind_ok (r.opening d ts) (r.brackets_rest i taken) (x, u) e in
@@ -170,7 +163,7 @@ brackets_sound limit d below taken le ts x u h e =
     let k = bind_ok (sign Close c.1) (λ end. give y) (x, u) c.3 in
     let inner = inner_sound limit d o.0 o.1 below taken le a.1 y c.1 c.2 in
     at_level Atom limit taken d o.0 x ts u o.1
-    (give_to (λ z q. ExprCounts (Atom (suc o.0)) limit taken z ts q) y k.1 x u k.3
+    (give_to (λ z q. Counts (Atom (suc o.0)) limit taken z ts q) y k.1 x u k.3
     (record { n = inner.n; total = inner.total; within = inner.within; stands = g.inside o.0 inner.n a.0 k.0 y.0 ts a.1 c.1 k.1 o.2 inner.stands (sign_sound Close c.1 k.0 k.1 k.2) }))
 
 fun_word-is : (w : Lexeme) (f : FunOp) → r.fun_of w ≡ Some f → w ≡ lex.Key (fun_word f)
@@ -185,17 +178,17 @@ pub next_fun-is : (w : Option Lexeme) (f : FunOp) → next_as r.fun_of w ≡ Som
 next_fun-is None f e = absurd cc
 next_fun-is (Some w) f e = ap (λ (v : Lexeme). Some v) (fun_word-is w f e)
 
-call_when : (limit : Count) (d : ℕ) → Below (LevelSound limit) d → (taken : Count) → IsWithin taken limit → (o : Option FunOp) (ts : Items) (x : CountedExpr) (u : Items) → next_as r.fun_of (head_word ts) ≡ o → r.call_by d (r.deeper_expr limit d) taken o ts ≡ read_of x u → ExprCounts (Atom d) limit taken x ts u
+call_when : (limit : Count) (d : ℕ) → Below (LevelSound limit) d → (taken : Count) → IsWithin taken limit → (o : Option FunOp) (ts : Items) (x : CountedExpr) (u : Items) → next_as r.fun_of (head_word ts) ≡ o → r.call_by d (r.deeper_expr limit d) taken o ts ≡ read_of x u → Counts (Atom d) limit taken x ts u
 call_when limit d below taken le (Some f) ts x u h e = call_sound limit d below f taken le ts x u (next_fun-is (head_word ts) f h) e
 call_when limit d below taken le None ts x u h e =
     let a = bind_ok (lit ts) (λ y. give (expr_at y.at (literal_form y.value), taken)) (x, u) e in
-    give_to (λ z q. ExprCounts (Atom d) limit taken z ts q) (expr_at (a.0).at (literal_form (a.0).value), taken) a.1 x u a.3
+    give_to (λ z q. Counts (Atom d) limit taken z ts q) (expr_at (a.0).at (literal_form (a.0).value), taken) a.1 x u a.3
     (record { n = none_counted; total = (omega arith, omega arith); within = le; stands = g.literal d a.0 ts a.1 (lit_sound ts a.0 a.1 a.2) })
 
-atom_when : (limit : Count) (d : ℕ) → Below (LevelSound limit) d → (taken : Count) → IsWithin taken limit → (o : Option Lexeme) (ts : Items) (x : CountedExpr) (u : Items) → head_word ts ≡ o → r.atom_by d (r.deeper_expr limit d) taken o ts ≡ read_of x u → ExprCounts (Atom d) limit taken x ts u
+atom_when : (limit : Count) (d : ℕ) → Below (LevelSound limit) d → (taken : Count) → IsWithin taken limit → (o : Option Lexeme) (ts : Items) (x : CountedExpr) (u : Items) → head_word ts ≡ o → r.atom_by d (r.deeper_expr limit d) taken o ts ≡ read_of x u → Counts (Atom d) limit taken x ts u
 atom_when limit d below taken le (Some (lex.Name n)) ts x u h e =
     let a = bind_ok (name ts) (λ y. give (expr_at y.at (form.Column y.name), taken)) (x, u) e in
-    give_to (λ z q. ExprCounts (Atom d) limit taken z ts q) (expr_at (a.0).at (form.Column (a.0).name), taken) a.1 x u a.3
+    give_to (λ z q. Counts (Atom d) limit taken z ts q) (expr_at (a.0).at (form.Column (a.0).name), taken) a.1 x u a.3
     (record { n = none_counted; total = (omega arith, omega arith); within = le; stands = g.column d a.0 ts a.1 (name_sound ts a.0 a.1 a.2) })
 atom_when limit d below taken le (Some (lex.Sign Open)) ts x u h e = brackets_sound limit d below taken le ts x u h e
 atom_when limit d below taken le w ts x u h e = call_when limit d below taken le (next_as r.fun_of w) ts x u (ap (next_as r.fun_of) h) e
@@ -216,7 +209,7 @@ comparison_from limit d below =
     let cat = sound_within (Chain 3 (Sum d)) (Cat d) limit c (chain_cat d) (chain_sound 3 (Sum d) limit s (sum_with-reads limit a (atom-reads limit d)) sum) in
     sound_within (Pair 2 (Cat d)) (Cmp d) limit (r.comparison_with limit a) (pair_cmp d) (pair_sound 2 (Cat d) limit c cat)
 
-negation_when : (limit : Count) (d : ℕ) → Below (LevelSound limit) d → (taken : Count) → IsWithin taken limit → (o : Option Lexeme) (ts : Items) (x : CountedExpr) (u : Items) → head_word ts ≡ o → r.negation_by d (r.deeper_not limit d) (r.comparison limit d) taken o ts ≡ read_of x u → ExprCounts (Not d) limit taken x ts u
+negation_when : (limit : Count) (d : ℕ) → Below (LevelSound limit) d → (taken : Count) → IsWithin taken limit → (o : Option Lexeme) (ts : Items) (x : CountedExpr) (u : Items) → head_word ts ≡ o → r.negation_by d (r.deeper_not limit d) (r.comparison limit d) taken o ts ≡ read_of x u → Counts (Not d) limit taken x ts u
 negation_when limit d below taken le (Some (lex.Key key.Not)) ts x u h e =
     let i = r.deeper_not limit d in
     let a = bind_ok (r.opening d ts) (r.negated_rest i taken) (x, u) e in
@@ -226,7 +219,7 @@ negation_when limit d below taken le (Some (lex.Key key.Not)) ts x u h e =
     let y = c.0 in
     let inner = inner_not_sound limit d o.0 o.1 below taken le a.1 y c.1 c.2 in
     at_level Not limit taken d o.0 x ts u o.1
-    (give_to (λ z q. ExprCounts (Not (suc o.0)) limit taken z ts q) (expr_at at (form.Not y.0), y.1) c.1 x u c.3
+    (give_to (λ z q. Counts (Not (suc o.0)) limit taken z ts q) (expr_at at (form.Not y.0), y.1) c.1 x u c.3
     (record { n = inner.n; total = inner.total; within = inner.within; stands = g.negated o.0 inner.n at y.0 ts a.1 c.1 o.2 inner.stands }))
 negation_when limit d below taken le w ts x u h e = lone_sound (Cmp d) (Not d) limit taken x ts u (g.cmp d) (comparison_from limit d below taken le ts x u e)
 
@@ -242,7 +235,7 @@ disjunction_from limit d below =
     let and = sound_within (Chain 1 (Not d)) (And d) limit c (chain_and d) (chain_sound 1 (Not d) limit n (negation-reads limit d) (negation_from limit d below)) in
     sound_within (Chain 0 (And d)) (Or d) limit (r.disjunction_with limit n) (chain_or d) (chain_sound 0 (And d) limit c (conjunction_with-reads limit n (negation-reads limit d)) and)
 
-expr_when : (limit : Count) (d : ℕ) → Below (LevelSound limit) d → (taken : Count) → IsWithin taken limit → (o : Option Lexeme) (ts : Items) (x : CountedExpr) (u : Items) → head_word ts ≡ o → r.expr_by d (r.deeper_expr limit d) (r.disjunction limit d) taken o ts ≡ read_of x u → ExprCounts (Expr d) limit taken x ts u
+expr_when : (limit : Count) (d : ℕ) → Below (LevelSound limit) d → (taken : Count) → IsWithin taken limit → (o : Option Lexeme) (ts : Items) (x : CountedExpr) (u : Items) → head_word ts ≡ o → r.expr_by d (r.deeper_expr limit d) (r.disjunction limit d) taken o ts ≡ read_of x u → Counts (Expr d) limit taken x ts u
 expr_when limit d below taken le (Some (lex.Key key.If)) ts x u h e =
     let i = r.deeper_expr limit d in
     let a = bind_ok (r.opening d ts) (r.branches_rest i taken) (x, u) e in
@@ -261,7 +254,7 @@ expr_when limit d below taken le (Some (lex.Key key.If)) ts x u h e =
     let s2 = inner c.1 s1.within f2.1 y f3.1 f3.2 in
     let s3 = inner y.1 s2.within f4.1 z f5.1 f5.2 in
     at_level Expr limit taken d o.0 x ts u o.1
-    (give_to (λ v q. ExprCounts (Expr (suc o.0)) limit taken v ts q) (expr_at at (form.If c.0 y.0 z.0), z.1) f5.1 x u f5.3
+    (give_to (λ v q. Counts (Expr (suc o.0)) limit taken v ts q) (expr_at at (form.If c.0 y.0 z.0), z.1) f5.1 x u f5.3
     (record {
       n = together s1.n (together s2.n s3.n);
       total = (omega (arith, s1.total.0, s2.total.0, s3.total.0), omega (arith, s1.total.1, s2.total.1, s3.total.1));

@@ -1,5 +1,5 @@
 -- Each rule of expressions with wider limits: it gives the same, or goes past the word of which there are too many.
-use Rattle.std.proofs.Common.{inl, inr, ◌≡◌, ℕ, zero, suc, ◌<◌, ◌≤◌, [], ◌∷◌, length, Option, Some, None, Ok, Err, Bool, true, false, cond, nat_lt, refl, sym, ap, subst, ◌∙◌, arith}
+use Rattle.std.proofs.Common.{inl, inr, ◌≡◌, ℕ, zero, suc, ◌<◌, [], ◌∷◌, length, Option, Some, None, Bool, true, false, cond, nat_lt, refl, ap, arith}
 use Rattle.std.proofs.lemmas.Bool.{ltb-true, lt-ltb}
 use Rattle.lara_data.specs.declared.expr.TwoOp.{TwoOp}
 use Rattle.lara_data.specs.declared.expr.FunOp.{FunOp}
@@ -10,32 +10,26 @@ use Rattle.lara_syntax.specs.declared.item.Lexeme.TheVariants as lex
 use Rattle.lara_syntax.specs.declared.item.Keyword.TheVariants as key
 use Rattle.lara_syntax.specs.declared.item.Sign.TheVariants.{Open, Close}
 use Rattle.lara_syntax.specs.declared.count.Count.{Count}
-use Rattle.lara_syntax.specs.declared.fault.Fault.TheVariants as faults
-use Rattle.lara_syntax.specs.declared.fault.Stop.{Stop}
 use Rattle.lara_syntax.specs.declared.ast_expr.AstForm.TheVariants as form
 use Rattle.lara_syntax.specs.Limits.{one_sign, IsWithin}
 use Rattle.lara_syntax.specs.ExprGrammar.{expr_at, two_at, literal_form, fun_word}
 use Rattle.lara_syntax.specs.ExprReading as r
 use Rattle.lara_syntax.specs.ExprReading.{CountedExpr, ExprReader}
 use Rattle.lara_syntax.specs.WordReading.{sign, keyword, name, lit, next_as}
-use Rattle.lara_syntax.specs.Steps.{Items, Read, Reader, ◌>>=◌, give, refuse, skip, turns, head_word}
-use Rattle.lara_syntax.proofs.Turns.{read_of, erred}
-use Rattle.lara_syntax.proofs.Readers.{IsReader, reads_bind, reads_give, reads_turns}
+use Rattle.lara_syntax.specs.Steps.{Items, Reader, ◌>>=◌, give, refuse, skip, turns, head_word}
+use Rattle.lara_syntax.proofs.Counts.{AreWithin}
+use Rattle.lara_syntax.proofs.Readers.{IsReader, reads_bind, reads_give}
 use Rattle.lara_syntax.proofs.RuleReaders.{sign-reads, keyword-reads}
 use Rattle.lara_syntax.proofs.PlainRules.{sign-plain, keyword-plain, name-plain, lit-plain}
-use Rattle.lara_syntax.proofs.Wider.{LessCount, Fits, Past, Wider, Widens, always, past_read, wider_onward, widens_bind, widens_give, widens_plain, wider_of}
-use Rattle.lara_syntax.proofs.ExprReaders.{ReadEach, right_of, right_of-reads, joined-shortens, operated-reads, operated-shorter, paired-reads, call_rest-reads, brackets_rest-reads, negated_rest-reads, branches_rest-reads, deeper_expr-reads, deeper_not-reads, atom-reads, product_with-reads, sum_with-reads, cat_with-reads, conjunction_with-reads, negation-reads}
-use Rattle.lara_syntax.proofs.ExprLoops.{chain-goes, chain-ends, chain-fails}
+use Rattle.lara_syntax.proofs.Wider.{LessCount, Wider, Widens, always, wider_onward, widens_bind, widens_give, widens_plain, wider_of}
+use Rattle.lara_syntax.proofs.WiderTurns.{some_of, turns_widen}
+use Rattle.lara_syntax.proofs.ExprReaders.{ReadEach, right_of, right_of-reads, some_of as given, operated-reads, operated-shorter, turns-reads, paired-reads, call_rest-reads, brackets_rest-reads, negated_rest-reads, branches_rest-reads, deeper_expr-reads, deeper_not-reads, atom-reads, product_with-reads, sum_with-reads, cat_with-reads, conjunction_with-reads, negation-reads}
 use Rattle.lara_syntax.proofs.ExprChains.{two_word, next_two-is}
 use Rattle.lara_syntax.proofs.ExprComplete.{Below, by_levels, deeper_expr-suc, deeper_not-suc}
 use Rattle.lara_syntax.proofs.ExprSound.{next_fun-is}
 
--- no more of what is counted than this
-abbrev pub ExprWithin : Count → CountedExpr → Type 0
-ExprWithin limit x = IsWithin x.1 limit
-
 abbrev pub PartWidens : Count → ExprReader → ExprReader → Type 0
-PartWidens limit p q = (taken : Count) → IsWithin taken limit → Widens (ExprWithin limit) (p taken) (q taken)
+PartWidens limit p q = (taken : Count) → IsWithin taken limit → Widens (AreWithin limit) (p taken) (q taken)
 
 -- ---- operators
 
@@ -49,58 +43,33 @@ unfolding r.operator_sign
 sign_widens limit more taken lt le [] w h = absurd cc
 sign_widens limit more taken lt le (t ∷ us) w h = sign_wider (nat_lt taken.signs limit.signs) (nat_lt taken.signs more.signs) (taken.signs < limit.signs) (ltb-true taken.signs limit.signs) (lt-ltb taken.signs more.signs (omega (arith, lt.1, le.1))) t us
 
-joined_widens : (limit more : Count) → LessCount limit more → (p q : ExprReader) → ReadEach q → PartWidens limit p q → (left : CountedExpr) → ExprWithin limit left → (op : TwoOp) (ts : Items) (w : Lexeme) → head_word ts ≡ Some w → Wider (ExprWithin limit) (r.joined limit p left op ts) (r.joined more q left op ts)
+joined_widens : (limit more : Count) → LessCount limit more → (p q : ExprReader) → ReadEach q → PartWidens limit p q → (left : CountedExpr) → AreWithin limit left → (op : TwoOp) (ts : Items) (w : Lexeme) → head_word ts ≡ Some w → Wider (AreWithin limit) (r.joined limit p left op ts) (r.joined more q left op ts)
 joined_widens limit more lt p q iq pw left le op ts w h =
-    wider_onward (λ at. (left.1).signs < limit.signs) (ExprWithin limit) (right_of p left op) (right_of q left op)
-    (λ at room. widens_bind (ExprWithin limit) (ExprWithin limit) (p (one_sign left.1)) (q (one_sign left.1)) (λ b. give (two_at at op left.0 b.0, b.1)) (λ b. give (two_at at op left.0 b.0, b.1)) (pw (one_sign left.1) (le.0, omega (arith, room))) (λ b hb. widens_give (ExprWithin limit) (two_at at op left.0 b.0, b.1) hb) (λ b. reads_give _))
+    wider_onward (λ at. (left.1).signs < limit.signs) (AreWithin limit) (right_of p left op) (right_of q left op)
+    (λ at room. widens_bind (AreWithin limit) (AreWithin limit) (p (one_sign left.1)) (q (one_sign left.1)) (λ b. give (two_at at op left.0 b.0, b.1)) (λ b. give (two_at at op left.0 b.0, b.1)) (pw (one_sign left.1) (le.0, omega (arith, room))) (λ b hb. widens_give (AreWithin limit) (two_at at op left.0 b.0, b.1) hb) (λ b. reads_give _))
     (right_of-reads q iq left op) (r.operator_sign limit left.1 ts) (r.operator_sign more left.1 ts) (sign_widens limit more left.1 lt le ts w h)
 
--- the turns that are left of a chain, with wider limits too
-abbrev RestWidens : ℕ → Count → Count → ExprReader → ExprReader → ℕ → Type 0
-RestWidens t limit more p q fuel = (left : CountedExpr) → ExprWithin limit left → (ts : Items) → length ts < fuel → Wider (ExprWithin limit) (turns (r.operated t limit p) left ts) (turns (r.operated t more q) left ts)
-
-rest-reads : (t : ℕ) (limit : Count) (p : ExprReader) → ReadEach p → (left : CountedExpr) → IsReader (turns (r.operated t limit p) left)
-rest-reads t limit p ip left = reads_turns (r.operated t limit p) (operated-shorter t limit p ip) (operated-reads t limit p ip) left
-
-same_turn : (t : ℕ) (limit more : Count) (p q : ExprReader) → ReadEach p → ReadEach q → (fuel : ℕ) → RestWidens t limit more p q fuel → (left : CountedExpr) (op : TwoOp) (o : Read CountedExpr) (ts : Items) → r.next_two t (head_word ts) ≡ Some op → r.joined limit p left op ts ≡ o → r.joined more q left op ts ≡ o → Fits (ExprWithin limit) o → length ts < suc fuel
-    → Wider (ExprWithin limit) (turns (r.operated t limit p) left ts) (turns (r.operated t more q) left ts)
-same_turn t limit more p q ip iq fuel next left op (Ok (x, m)) ts n h k fits lt =
-    wider_of (ExprWithin limit) (turns (r.operated t limit p) left ts) (turns (r.operated t limit p) x m) (turns (r.operated t more q) left ts) (turns (r.operated t more q) x m) (chain-goes t limit p ip left op ts x m n h) (chain-goes t more q iq left op ts x m n k)
-    (next x fits m (omega (arith, lt, joined-shortens limit p ip left op ts x m h)))
-same_turn t limit more p q ip iq fuel next left op (Err c) ts n h k fits lt =
-    wider_of (ExprWithin limit) (turns (r.operated t limit p) left ts) (erred c) (turns (r.operated t more q) left ts) (erred c) (chain-fails t limit p ip left op ts (faults.Stopped c) n h) (chain-fails t more q iq left op ts (faults.Stopped c) n k) (inl (refl, fits))
-
-past_turn : (t : ℕ) (more : Count) (q : ExprReader) → ReadEach q → (left : CountedExpr) (op : TwoOp) (n : ℕ) (o : Read CountedExpr) (ts : Items) → r.next_two t (head_word ts) ≡ Some op → r.joined more q left op ts ≡ o → Past n o → Past n (turns (r.operated t more q) left ts)
-past_turn t more q iq left op n (Ok (x, m)) ts e k lt = subst (λ (y : Read CountedExpr). Past n y) (sym (chain-goes t more q iq left op ts x m e k)) (past_read (turns (r.operated t more q) x) (rest-reads t more q iq x) n m lt (turns (r.operated t more q) x m) refl)
-past_turn t more q iq left op n (Err c) ts e k lt = subst (λ (y : Read CountedExpr). Past n y) (sym (chain-fails t more q iq left op ts (faults.Stopped c) e k)) lt
-
-turn_widens : (t : ℕ) (limit more : Count) (p q : ExprReader) → ReadEach p → ReadEach q → (fuel : ℕ) → RestWidens t limit more p q fuel → (left : CountedExpr) (op : TwoOp) (ts : Items) → r.next_two t (head_word ts) ≡ Some op → length ts < suc fuel → Wider (ExprWithin limit) (r.joined limit p left op ts) (r.joined more q left op ts)
-    → Wider (ExprWithin limit) (turns (r.operated t limit p) left ts) (turns (r.operated t more q) left ts)
-turn_widens t limit more p q ip iq fuel next left op ts n lt (inl h) = same_turn t limit more p q ip iq fuel next left op (r.joined limit p left op ts) ts n refl (sym h.0) h.1 lt
-turn_widens t limit more p q ip iq fuel next left op ts n lt (inr h) = inr (h.0, chain-fails t limit p ip left op ts (faults.Stopped h.0) n h.1, h.2, past_turn t more q iq left op (h.0).left (r.joined more q left op ts) ts n refl h.3)
-
-rest_by : (t : ℕ) (limit more : Count) → LessCount limit more → (p q : ExprReader) → ReadEach p → ReadEach q → PartWidens limit p q → (fuel : ℕ) → RestWidens t limit more p q fuel → (o : Option TwoOp) (left : CountedExpr) → ExprWithin limit left → (ts : Items) → r.next_two t (head_word ts) ≡ o → length ts < suc fuel
-    → Wider (ExprWithin limit) (turns (r.operated t limit p) left ts) (turns (r.operated t more q) left ts)
-rest_by t limit more less p q ip iq pw fuel next None left le ts n lt =
-    wider_of (ExprWithin limit) (turns (r.operated t limit p) left ts) (read_of left ts) (turns (r.operated t more q) left ts) (read_of left ts) (chain-ends t limit p ip left ts n) (chain-ends t more q iq left ts n) (inl (refl, le))
-rest_by t limit more less p q ip iq pw fuel next (Some op) left le ts n lt =
-    turn_widens t limit more p q ip iq fuel next left op ts n lt (joined_widens limit more less p q iq pw left le op ts (two_word op) (next_two-is t (head_word ts) op n).0)
-
-rest_widens : (t : ℕ) (limit more : Count) → LessCount limit more → (p q : ExprReader) → ReadEach p → ReadEach q → PartWidens limit p q → (fuel : ℕ) → RestWidens t limit more p q fuel
-rest_widens t limit more less p q ip iq pw zero left le ts lt = absurd (omega (arith, lt))
-rest_widens t limit more less p q ip iq pw (suc fuel) left le ts lt = rest_by t limit more less p q ip iq pw fuel (rest_widens t limit more less p q ip iq pw fuel) (r.next_two t (head_word ts)) left le ts refl lt
+operated_by_widens : (t : ℕ) (limit more : Count) → LessCount limit more → (p q : ExprReader) → ReadEach q → PartWidens limit p q → (o : Option TwoOp) (left : CountedExpr) → AreWithin limit left → (ts : Items) → r.next_two t (head_word ts) ≡ o → Wider (some_of (AreWithin limit)) (r.operated_by limit p left o ts) (r.operated_by more q left o ts)
+operated_by_widens t limit more less p q iq pw None left le ts n = inl (refl, tt)
+operated_by_widens t limit more less p q iq pw (Some op) left le ts n =
+    wider_onward (AreWithin limit) (some_of (AreWithin limit)) given given (λ x hx. widens_give (some_of (AreWithin limit)) (Some x) hx) (λ x. reads_give (Some x)) (r.joined limit p left op ts) (r.joined more q left op ts)
+    (joined_widens limit more less p q iq pw left le op ts (two_word op) (next_two-is t (head_word ts) op n).0)
 
 chain_widens : (t : ℕ) (limit more : Count) → LessCount limit more → (p q : ExprReader) → ReadEach p → ReadEach q → PartWidens limit p q → PartWidens limit (r.chain t limit p) (r.chain t more q)
 chain_widens t limit more less p q ip iq pw taken le =
-    widens_bind (ExprWithin limit) (ExprWithin limit) (p taken) (q taken) (turns (r.operated t limit p)) (turns (r.operated t more q)) (pw taken le) (λ left hl ts. rest_widens t limit more less p q ip iq pw (suc (length ts)) left hl ts (omega arith)) (rest-reads t more q iq)
+    let step = r.operated t limit p in
+    let wide = r.operated t more q in
+    widens_bind (AreWithin limit) (AreWithin limit) (p taken) (q taken) (turns step) (turns wide) (pw taken le)
+    (turns_widen (AreWithin limit) step wide (operated-shorter t limit p ip) (operated-shorter t more q iq) (operated-reads t more q iq) (λ left hl ts. operated_by_widens t limit more less p q iq pw (r.next_two t (head_word ts)) left hl ts refl))
+    (turns-reads t more q iq)
 
-pair_by_widens : (t : ℕ) (limit more : Count) → LessCount limit more → (p q : ExprReader) → ReadEach q → PartWidens limit p q → (o : Option TwoOp) (left : CountedExpr) → ExprWithin limit left → (ts : Items) → r.next_two t (head_word ts) ≡ o → Wider (ExprWithin limit) (r.pair_by limit p left o ts) (r.pair_by more q left o ts)
+pair_by_widens : (t : ℕ) (limit more : Count) → LessCount limit more → (p q : ExprReader) → ReadEach q → PartWidens limit p q → (o : Option TwoOp) (left : CountedExpr) → AreWithin limit left → (ts : Items) → r.next_two t (head_word ts) ≡ o → Wider (AreWithin limit) (r.pair_by limit p left o ts) (r.pair_by more q left o ts)
 pair_by_widens t limit more less p q iq pw None left le ts n = inl (refl, le)
 pair_by_widens t limit more less p q iq pw (Some op) left le ts n = joined_widens limit more less p q iq pw left le op ts (two_word op) (next_two-is t (head_word ts) op n).0
 
 pair_widens : (t : ℕ) (limit more : Count) → LessCount limit more → (p q : ExprReader) → ReadEach q → PartWidens limit p q → PartWidens limit (r.pair t limit p) (r.pair t more q)
 pair_widens t limit more less p q iq pw taken le =
-    widens_bind (ExprWithin limit) (ExprWithin limit) (p taken) (q taken) (r.paired t limit p) (r.paired t more q) (pw taken le) (λ left hl ts. pair_by_widens t limit more less p q iq pw (r.next_two t (head_word ts)) left hl ts refl) (paired-reads t more q iq)
+    widens_bind (AreWithin limit) (AreWithin limit) (p taken) (q taken) (r.paired t limit p) (r.paired t more q) (pw taken le) (λ left hl ts. pair_by_widens t limit more less p q iq pw (r.next_two t (head_word ts)) left hl ts refl) (paired-reads t more q iq)
 
 -- ---- each rule, where what is a level deeper widens
 
@@ -118,41 +87,41 @@ opening_widens levels (suc deeper) lt [] w h = absurd cc
 opening_widens zero (suc deeper) lt (t ∷ us) w h = inr (record { left = suc (length us); kind = TooMany }, refl, refl, omega arith)
 opening_widens (suc levels) (suc deeper) lt (t ∷ us) w h = inl (refl, (levels, refl))
 
-opened_widens : (limit : Count) (levels deeper : ℕ) → levels < deeper → (f g : ℕ → Reader CountedExpr) → ((at : ℕ) → IsLevel levels → Widens (ExprWithin limit) (f at) (g at)) → ((at : ℕ) → IsReader (g at)) → (ts : Items) (w : Lexeme) → head_word ts ≡ Some w → Wider (ExprWithin limit) ((r.opening levels >>= f) ts) ((r.opening deeper >>= g) ts)
-opened_widens limit levels deeper lt f g wf ig ts w h = wider_onward (λ at. IsLevel levels) (ExprWithin limit) f g wf ig (r.opening levels ts) (r.opening deeper ts) (opening_widens levels deeper lt ts w h)
+opened_widens : (limit : Count) (levels deeper : ℕ) → levels < deeper → (f g : ℕ → Reader CountedExpr) → ((at : ℕ) → IsLevel levels → Widens (AreWithin limit) (f at) (g at)) → ((at : ℕ) → IsReader (g at)) → (ts : Items) (w : Lexeme) → head_word ts ≡ Some w → Wider (AreWithin limit) ((r.opening levels >>= f) ts) ((r.opening deeper >>= g) ts)
+opened_widens limit levels deeper lt f g wf ig ts w h = wider_onward (λ at. IsLevel levels) (AreWithin limit) f g wf ig (r.opening levels ts) (r.opening deeper ts) (opening_widens levels deeper lt ts w h)
 
 inner_widens : (limit more : Count) (levels deeper : ℕ) → levels < deeper → Below (LevelWidens limit more) levels → IsLevel levels → PartWidens limit (r.deeper_expr limit levels) (r.deeper_expr more deeper)
 inner_widens limit more levels zero lt below some taken le ts = absurd (omega (arith, lt))
 inner_widens limit more zero (suc deeper) lt below some taken le ts = absurd (omega (arith, some.1))
 inner_widens limit more (suc levels) (suc deeper) lt below some taken le ts =
-    wider_of (ExprWithin limit) (r.deeper_expr limit (suc levels) taken ts) (r.expr limit levels taken ts) (r.deeper_expr more (suc deeper) taken ts) (r.expr more deeper taken ts) (deeper_expr-suc limit levels taken ts) (deeper_expr-suc more deeper taken ts)
+    wider_of (AreWithin limit) (r.deeper_expr limit (suc levels) taken ts) (r.expr limit levels taken ts) (r.deeper_expr more (suc deeper) taken ts) (r.expr more deeper taken ts) (deeper_expr-suc limit levels taken ts) (deeper_expr-suc more deeper taken ts)
     ((below levels refl deeper (omega (arith, lt))).0 taken le ts)
 
 inner_not_widens : (limit more : Count) (levels deeper : ℕ) → levels < deeper → Below (LevelWidens limit more) levels → IsLevel levels → PartWidens limit (r.deeper_not limit levels) (r.deeper_not more deeper)
 inner_not_widens limit more levels zero lt below some taken le ts = absurd (omega (arith, lt))
 inner_not_widens limit more zero (suc deeper) lt below some taken le ts = absurd (omega (arith, some.1))
 inner_not_widens limit more (suc levels) (suc deeper) lt below some taken le ts =
-    wider_of (ExprWithin limit) (r.deeper_not limit (suc levels) taken ts) (r.negation limit levels taken ts) (r.deeper_not more (suc deeper) taken ts) (r.negation more deeper taken ts) (deeper_not-suc limit levels taken ts) (deeper_not-suc more deeper taken ts)
+    wider_of (AreWithin limit) (r.deeper_not limit (suc levels) taken ts) (r.negation limit levels taken ts) (r.deeper_not more (suc deeper) taken ts) (r.negation more deeper taken ts) (deeper_not-suc limit levels taken ts) (deeper_not-suc more deeper taken ts)
     ((below levels refl deeper (omega (arith, lt))).1 taken le ts)
 
 -- what is closed by `)`
-closed_widens : (limit : Count) (y : CountedExpr) → ExprWithin limit y → Widens (ExprWithin limit) (sign Close >>= λ end. give y) (sign Close >>= λ end. give y)
-closed_widens limit y le = widens_bind always (ExprWithin limit) (sign Close) (sign Close) (λ end. give y) (λ end. give y) (widens_plain (sign Close) (sign-plain Close)) (λ end he. widens_give (ExprWithin limit) y le) (λ end. reads_give y)
+closed_widens : (limit : Count) (y : CountedExpr) → AreWithin limit y → Widens (AreWithin limit) (sign Close >>= λ end. give y) (sign Close >>= λ end. give y)
+closed_widens limit y le = widens_bind always (AreWithin limit) (sign Close) (sign Close) (λ end. give y) (λ end. give y) (widens_plain (sign Close) (sign-plain Close)) (λ end he. widens_give (AreWithin limit) y le) (λ end. reads_give y)
 
 closed-reads : (y : CountedExpr) → IsReader (sign Close >>= λ end. give y)
 closed-reads y = reads_bind (sign Close) _ (sign-reads Close) (λ end. reads_give y)
 
-call_rest_widens : (limit : Count) (f : FunOp) (i j : ExprReader) → ReadEach j → PartWidens limit i j → (taken : Count) → IsWithin taken limit → (at : ℕ) → Widens (ExprWithin limit) (r.call_rest f i taken at) (r.call_rest f j taken at)
+call_rest_widens : (limit : Count) (f : FunOp) (i j : ExprReader) → ReadEach j → PartWidens limit i j → (taken : Count) → IsWithin taken limit → (at : ℕ) → Widens (AreWithin limit) (r.call_rest f i taken at) (r.call_rest f j taken at)
 call_rest_widens limit f i j ij w taken le at =
-    widens_bind always (ExprWithin limit) (sign Open) (sign Open) (λ from. i taken >>= λ x. sign Close >>= λ end. give (expr_at at (form.Fun f x.0), x.1)) (λ from. j taken >>= λ x. sign Close >>= λ end. give (expr_at at (form.Fun f x.0), x.1)) (widens_plain (sign Open) (sign-plain Open))
-    (λ from hf. widens_bind (ExprWithin limit) (ExprWithin limit) (i taken) (j taken) (λ x. sign Close >>= λ end. give (expr_at at (form.Fun f x.0), x.1)) (λ x. sign Close >>= λ end. give (expr_at at (form.Fun f x.0), x.1)) (w taken le) (λ x hx. closed_widens limit (expr_at at (form.Fun f x.0), x.1) hx) (λ x. closed-reads _))
+    widens_bind always (AreWithin limit) (sign Open) (sign Open) (λ from. i taken >>= λ x. sign Close >>= λ end. give (expr_at at (form.Fun f x.0), x.1)) (λ from. j taken >>= λ x. sign Close >>= λ end. give (expr_at at (form.Fun f x.0), x.1)) (widens_plain (sign Open) (sign-plain Open))
+    (λ from hf. widens_bind (AreWithin limit) (AreWithin limit) (i taken) (j taken) (λ x. sign Close >>= λ end. give (expr_at at (form.Fun f x.0), x.1)) (λ x. sign Close >>= λ end. give (expr_at at (form.Fun f x.0), x.1)) (w taken le) (λ x hx. closed_widens limit (expr_at at (form.Fun f x.0), x.1) hx) (λ x. closed-reads _))
     (λ from. reads_bind (j taken) _ (ij taken) (λ x. closed-reads _))
 
-brackets_rest_widens : (limit : Count) (i j : ExprReader) → PartWidens limit i j → (taken : Count) → IsWithin taken limit → (at : ℕ) → Widens (ExprWithin limit) (r.brackets_rest i taken at) (r.brackets_rest j taken at)
-brackets_rest_widens limit i j w taken le at = widens_bind (ExprWithin limit) (ExprWithin limit) (i taken) (j taken) (λ x. sign Close >>= λ end. give x) (λ x. sign Close >>= λ end. give x) (w taken le) (λ x hx. closed_widens limit x hx) closed-reads
+brackets_rest_widens : (limit : Count) (i j : ExprReader) → PartWidens limit i j → (taken : Count) → IsWithin taken limit → (at : ℕ) → Widens (AreWithin limit) (r.brackets_rest i taken at) (r.brackets_rest j taken at)
+brackets_rest_widens limit i j w taken le at = widens_bind (AreWithin limit) (AreWithin limit) (i taken) (j taken) (λ x. sign Close >>= λ end. give x) (λ x. sign Close >>= λ end. give x) (w taken le) (λ x hx. closed_widens limit x hx) closed-reads
 
-negated_rest_widens : (limit : Count) (i j : ExprReader) → PartWidens limit i j → (taken : Count) → IsWithin taken limit → (at : ℕ) → Widens (ExprWithin limit) (r.negated_rest i taken at) (r.negated_rest j taken at)
-negated_rest_widens limit i j w taken le at = widens_bind (ExprWithin limit) (ExprWithin limit) (i taken) (j taken) (λ x. give (expr_at at (form.Not x.0), x.1)) (λ x. give (expr_at at (form.Not x.0), x.1)) (w taken le) (λ x hx. widens_give (ExprWithin limit) (expr_at at (form.Not x.0), x.1) hx) (λ x. reads_give _)
+negated_rest_widens : (limit : Count) (i j : ExprReader) → PartWidens limit i j → (taken : Count) → IsWithin taken limit → (at : ℕ) → Widens (AreWithin limit) (r.negated_rest i taken at) (r.negated_rest j taken at)
+negated_rest_widens limit i j w taken le at = widens_bind (AreWithin limit) (AreWithin limit) (i taken) (j taken) (λ x. give (expr_at at (form.Not x.0), x.1)) (λ x. give (expr_at at (form.Not x.0), x.1)) (w taken le) (λ x hx. widens_give (AreWithin limit) (expr_at at (form.Not x.0), x.1) hx) (λ x. reads_give _)
 
 -- the parts of an `if` behind its condition, behind its first branch
 abbrev pub second_branch : ℕ → ExprReader → CountedExpr → CountedExpr → Reader CountedExpr
@@ -167,33 +136,33 @@ second_branch-reads at i ii c x = reads_bind (keyword key.Else) _ (keyword-reads
 pub first_branch-reads : (at : ℕ) (i : ExprReader) → ReadEach i → (c : CountedExpr) → IsReader (first_branch at i c)
 first_branch-reads at i ii c = reads_bind (keyword key.Then) _ (keyword-reads key.Then) (λ from. reads_bind (i c.1) _ (ii c.1) (second_branch-reads at i ii c))
 
-second_branch_widens : (limit : Count) (at : ℕ) (i j : ExprReader) → ReadEach j → PartWidens limit i j → (c x : CountedExpr) → ExprWithin limit x → Widens (ExprWithin limit) (second_branch at i c x) (second_branch at j c x)
+second_branch_widens : (limit : Count) (at : ℕ) (i j : ExprReader) → ReadEach j → PartWidens limit i j → (c x : CountedExpr) → AreWithin limit x → Widens (AreWithin limit) (second_branch at i c x) (second_branch at j c x)
 second_branch_widens limit at i j ij w c x hx =
-    widens_bind always (ExprWithin limit) (keyword key.Else) (keyword key.Else) (λ to. i x.1 >>= λ y. give (expr_at at (form.If c.0 x.0 y.0), y.1)) (λ to. j x.1 >>= λ y. give (expr_at at (form.If c.0 x.0 y.0), y.1)) (widens_plain (keyword key.Else) (keyword-plain key.Else))
-    (λ to ht. widens_bind (ExprWithin limit) (ExprWithin limit) (i x.1) (j x.1) (λ y. give (expr_at at (form.If c.0 x.0 y.0), y.1)) (λ y. give (expr_at at (form.If c.0 x.0 y.0), y.1)) (w x.1 hx) (λ y hy. widens_give (ExprWithin limit) (expr_at at (form.If c.0 x.0 y.0), y.1) hy) (λ y. reads_give _))
+    widens_bind always (AreWithin limit) (keyword key.Else) (keyword key.Else) (λ to. i x.1 >>= λ y. give (expr_at at (form.If c.0 x.0 y.0), y.1)) (λ to. j x.1 >>= λ y. give (expr_at at (form.If c.0 x.0 y.0), y.1)) (widens_plain (keyword key.Else) (keyword-plain key.Else))
+    (λ to ht. widens_bind (AreWithin limit) (AreWithin limit) (i x.1) (j x.1) (λ y. give (expr_at at (form.If c.0 x.0 y.0), y.1)) (λ y. give (expr_at at (form.If c.0 x.0 y.0), y.1)) (w x.1 hx) (λ y hy. widens_give (AreWithin limit) (expr_at at (form.If c.0 x.0 y.0), y.1) hy) (λ y. reads_give _))
     (λ to. reads_bind (j x.1) _ (ij x.1) (λ y. reads_give _))
 
-first_branch_widens : (limit : Count) (at : ℕ) (i j : ExprReader) → ReadEach j → PartWidens limit i j → (c : CountedExpr) → ExprWithin limit c → Widens (ExprWithin limit) (first_branch at i c) (first_branch at j c)
+first_branch_widens : (limit : Count) (at : ℕ) (i j : ExprReader) → ReadEach j → PartWidens limit i j → (c : CountedExpr) → AreWithin limit c → Widens (AreWithin limit) (first_branch at i c) (first_branch at j c)
 first_branch_widens limit at i j ij w c hc =
-    widens_bind always (ExprWithin limit) (keyword key.Then) (keyword key.Then) (λ from. i c.1 >>= second_branch at i c) (λ from. j c.1 >>= second_branch at j c) (widens_plain (keyword key.Then) (keyword-plain key.Then))
-    (λ from hf. widens_bind (ExprWithin limit) (ExprWithin limit) (i c.1) (j c.1) (second_branch at i c) (second_branch at j c) (w c.1 hc) (second_branch_widens limit at i j ij w c) (second_branch-reads at j ij c))
+    widens_bind always (AreWithin limit) (keyword key.Then) (keyword key.Then) (λ from. i c.1 >>= second_branch at i c) (λ from. j c.1 >>= second_branch at j c) (widens_plain (keyword key.Then) (keyword-plain key.Then))
+    (λ from hf. widens_bind (AreWithin limit) (AreWithin limit) (i c.1) (j c.1) (second_branch at i c) (second_branch at j c) (w c.1 hc) (second_branch_widens limit at i j ij w c) (second_branch-reads at j ij c))
     (λ from. reads_bind (j c.1) _ (ij c.1) (second_branch-reads at j ij c))
 
-branches_rest_widens : (limit : Count) (i j : ExprReader) → ReadEach j → PartWidens limit i j → (taken : Count) → IsWithin taken limit → (at : ℕ) → Widens (ExprWithin limit) (r.branches_rest i taken at) (r.branches_rest j taken at)
-branches_rest_widens limit i j ij w taken le at = widens_bind (ExprWithin limit) (ExprWithin limit) (i taken) (j taken) (first_branch at i) (first_branch at j) (w taken le) (first_branch_widens limit at i j ij w) (first_branch-reads at j ij)
+branches_rest_widens : (limit : Count) (i j : ExprReader) → ReadEach j → PartWidens limit i j → (taken : Count) → IsWithin taken limit → (at : ℕ) → Widens (AreWithin limit) (r.branches_rest i taken at) (r.branches_rest j taken at)
+branches_rest_widens limit i j ij w taken le at = widens_bind (AreWithin limit) (AreWithin limit) (i taken) (j taken) (first_branch at i) (first_branch at j) (w taken le) (first_branch_widens limit at i j ij w) (first_branch-reads at j ij)
 
-call_by_widens : (limit more : Count) (levels deeper : ℕ) → levels < deeper → Below (LevelWidens limit more) levels → (taken : Count) → IsWithin taken limit → (o : Option FunOp) (ts : Items) → next_as r.fun_of (head_word ts) ≡ o → Wider (ExprWithin limit) (r.call_by levels (r.deeper_expr limit levels) taken o ts) (r.call_by deeper (r.deeper_expr more deeper) taken o ts)
+call_by_widens : (limit more : Count) (levels deeper : ℕ) → levels < deeper → Below (LevelWidens limit more) levels → (taken : Count) → IsWithin taken limit → (o : Option FunOp) (ts : Items) → next_as r.fun_of (head_word ts) ≡ o → Wider (AreWithin limit) (r.call_by levels (r.deeper_expr limit levels) taken o ts) (r.call_by deeper (r.deeper_expr more deeper) taken o ts)
 call_by_widens limit more levels deeper lt below taken le (Some f) ts h =
     let i = r.deeper_expr limit levels in
     let j = r.deeper_expr more deeper in
     let ij = deeper_expr-reads more deeper in
     opened_widens limit levels deeper lt (r.call_rest f i taken) (r.call_rest f j taken) (λ at some. call_rest_widens limit f i j ij (inner_widens limit more levels deeper lt below some) taken le at) (call_rest-reads f j ij taken) ts (lex.Key (fun_word f)) (next_fun-is (head_word ts) f h)
 call_by_widens limit more levels deeper lt below taken le None ts h =
-    widens_bind always (ExprWithin limit) lit lit (λ x. give (expr_at x.at (literal_form x.value), taken)) (λ x. give (expr_at x.at (literal_form x.value), taken)) (widens_plain lit lit-plain) (λ x hx. widens_give (ExprWithin limit) (expr_at x.at (literal_form x.value), taken) le) (λ x. reads_give _) ts
+    widens_bind always (AreWithin limit) lit lit (λ x. give (expr_at x.at (literal_form x.value), taken)) (λ x. give (expr_at x.at (literal_form x.value), taken)) (widens_plain lit lit-plain) (λ x hx. widens_give (AreWithin limit) (expr_at x.at (literal_form x.value), taken) le) (λ x. reads_give _) ts
 
-atom_by_widens : (limit more : Count) (levels deeper : ℕ) → levels < deeper → Below (LevelWidens limit more) levels → (taken : Count) → IsWithin taken limit → (w : Option Lexeme) (ts : Items) → head_word ts ≡ w → Wider (ExprWithin limit) (r.atom_by levels (r.deeper_expr limit levels) taken w ts) (r.atom_by deeper (r.deeper_expr more deeper) taken w ts)
+atom_by_widens : (limit more : Count) (levels deeper : ℕ) → levels < deeper → Below (LevelWidens limit more) levels → (taken : Count) → IsWithin taken limit → (w : Option Lexeme) (ts : Items) → head_word ts ≡ w → Wider (AreWithin limit) (r.atom_by levels (r.deeper_expr limit levels) taken w ts) (r.atom_by deeper (r.deeper_expr more deeper) taken w ts)
 atom_by_widens limit more levels deeper lt below taken le (Some (lex.Name n)) ts h =
-    widens_bind always (ExprWithin limit) name name (λ x. give (expr_at x.at (form.Column x.name), taken)) (λ x. give (expr_at x.at (form.Column x.name), taken)) (widens_plain name name-plain) (λ x hx. widens_give (ExprWithin limit) (expr_at x.at (form.Column x.name), taken) le) (λ x. reads_give _) ts
+    widens_bind always (AreWithin limit) name name (λ x. give (expr_at x.at (form.Column x.name), taken)) (λ x. give (expr_at x.at (form.Column x.name), taken)) (widens_plain name name-plain) (λ x hx. widens_give (AreWithin limit) (expr_at x.at (form.Column x.name), taken) le) (λ x. reads_give _) ts
 atom_by_widens limit more levels deeper lt below taken le (Some (lex.Sign Open)) ts h =
     let i = r.deeper_expr limit levels in
     let j = r.deeper_expr more deeper in
@@ -217,7 +186,7 @@ comparison_from limit more less levels deeper lt below =
     pair_widens 2 limit more less (r.cat_with limit a) (r.cat_with more b) (cat_with-reads more b ib) cat
 
 negation_by_widens : (limit more : Count) → LessCount limit more → (levels deeper : ℕ) → levels < deeper → Below (LevelWidens limit more) levels → (taken : Count) → IsWithin taken limit → (w : Option Lexeme) (ts : Items) → head_word ts ≡ w
-    → Wider (ExprWithin limit) (r.negation_by levels (r.deeper_not limit levels) (r.comparison limit levels) taken w ts) (r.negation_by deeper (r.deeper_not more deeper) (r.comparison more deeper) taken w ts)
+    → Wider (AreWithin limit) (r.negation_by levels (r.deeper_not limit levels) (r.comparison limit levels) taken w ts) (r.negation_by deeper (r.deeper_not more deeper) (r.comparison more deeper) taken w ts)
 negation_by_widens limit more less levels deeper lt below taken le (Some (lex.Key key.Not)) ts h =
     let i = r.deeper_not limit levels in
     let j = r.deeper_not more deeper in
@@ -239,7 +208,7 @@ disjunction_from limit more less levels deeper lt below =
     chain_widens 0 limit more less (r.conjunction_with limit n) (r.conjunction_with more m) (conjunction_with-reads limit n ns) (conjunction_with-reads more m ms) and
 
 expr_by_widens : (limit more : Count) → LessCount limit more → (levels deeper : ℕ) → levels < deeper → Below (LevelWidens limit more) levels → (taken : Count) → IsWithin taken limit → (w : Option Lexeme) (ts : Items) → head_word ts ≡ w
-    → Wider (ExprWithin limit) (r.expr_by levels (r.deeper_expr limit levels) (r.disjunction limit levels) taken w ts) (r.expr_by deeper (r.deeper_expr more deeper) (r.disjunction more deeper) taken w ts)
+    → Wider (AreWithin limit) (r.expr_by levels (r.deeper_expr limit levels) (r.disjunction limit levels) taken w ts) (r.expr_by deeper (r.deeper_expr more deeper) (r.disjunction more deeper) taken w ts)
 expr_by_widens limit more less levels deeper lt below taken le (Some (lex.Key key.If)) ts h =
     let i = r.deeper_expr limit levels in
     let j = r.deeper_expr more deeper in

@@ -35,6 +35,7 @@ pub mod TableReaders
 pub mod TextLaws
 pub mod Turns
 pub mod Viable
+pub mod ViableExprs
 pub mod ViableLoop
 pub mod ViableOperands
 pub mod ViableScript

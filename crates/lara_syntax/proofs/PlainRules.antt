@@ -117,7 +117,7 @@ pub some_names-plain : Plain r.some_names
 unfolding r.some_names
 some_names-plain = plain_choice r.some_names_by some_names_by-plain
 
-key_col-plain : Plain r.key_col
+pub key_col-plain : Plain r.key_col
 unfolding r.key_col
 key_col-plain = plain_bind words.name _ name-plain (λ x. plain_bind (sign Colon) _ (sign-plain Colon) (λ at. plain_bind words.key_type _ key_type-plain (λ t. plain_give _)))
 
@@ -130,7 +130,7 @@ some_key_cols-plain : Plain r.some_key_cols
 unfolding r.some_key_cols
 some_key_cols-plain = plain_choice r.some_key_cols_by some_key_cols_by-plain
 
-val_col-plain : Plain r.val_col
+pub val_col-plain : Plain r.val_col
 unfolding r.val_col
 val_col-plain = plain_bind words.name _ name-plain (λ x. plain_bind (sign Colon) _ (sign-plain Colon) (λ at. plain_bind words.val_type _ val_type-plain (λ t. plain_give _)))
 

@@ -36,7 +36,7 @@ some_names_sound ts ns u e = some_names_when (head_word ts) ts ns u e
 
 -- ---- columns
 
-key_col_sound : Sound KeyCol r.key_col
+pub key_col_sound : Sound KeyCol r.key_col
 unfolding r.key_col
 key_col_sound ts x u e =
     let a = bind_ok (words.name ts) (λ n. sign Colon >>= λ at. words.key_type >>= λ t. give (record { name = n; ty = t })) (x, u) e in
@@ -53,7 +53,7 @@ some_key_cols_sound : Sound (Maybe (Commas KeyCol)) r.some_key_cols
 unfolding r.some_key_cols
 some_key_cols_sound ts xs u e = some_key_cols_when (head_word ts) ts xs u e
 
-val_col_sound : Sound ValCol r.val_col
+pub val_col_sound : Sound ValCol r.val_col
 unfolding r.val_col
 val_col_sound ts x u e =
     let a = bind_ok (words.name ts) (λ n. sign Colon >>= λ at. words.val_type >>= λ t. give (record { name = n; ty = t })) (x, u) e in

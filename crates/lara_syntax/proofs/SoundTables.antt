@@ -1,5 +1,6 @@
 -- What is read is in the grammar: tables and statements.
-use Rattle.std.proofs.Common.{◌≡◌, ℕ, zero, suc, ◌<◌, Bool, true, false, nat_lt, cond, List, [], ◌∷◌, Option, Some, None, refl, sym, subst, ◌∙◌, arith}
+use Rattle.std.proofs.Common.{◌≡◌, ℕ, zero, suc, ◌<◌, Bool, true, false, nat_lt, cond, List, [], ◌∷◌, Option, Some, None, refl, sym, subst, ◌∙◌, arith, length, ◌++◌, Ok, Err, append_assoc}
+use Rattle.std.proofs.lemmas.List.{append-nil}
 use Rattle.std.proofs.lemmas.Bool.{ltb-true}
 use Rattle.lara_data.specs.declared.refusal.Kind.TheVariants.{TooMany}
 use Rattle.lara_syntax.specs.declared.item.Lexeme.{Lexeme}
@@ -14,29 +15,116 @@ use Rattle.lara_syntax.specs.declared.ast.AstOp.TheVariants as op
 use Rattle.lara_syntax.specs.declared.ast.AstStatement.{AstStatement}
 use Rattle.lara_syntax.specs.declared.ast.AstStatement.TheVariants as st
 use Rattle.lara_syntax.specs.Limits.{Limits, none_counted, one_operator, together, IsWithin}
-use Rattle.lara_syntax.proofs.Counts.{IsSum}
+use Rattle.lara_syntax.proofs.Counts.{IsSum, Counts}
 use Rattle.lara_syntax.specs.declared.count.Count.{Count}
-use Rattle.lara_syntax.specs.Steps.{Items, Reader, ◌>>=◌, give, refuse, skip, head_word}
+use Rattle.lara_syntax.specs.Steps.{Items, Reader, ◌>>=◌, give, refuse, skip, head_word, Read}
 use Rattle.lara_syntax.specs.Reading as r
 use Rattle.lara_syntax.specs.WordReading as words
 use Rattle.lara_syntax.specs.Places.{node}
-use Rattle.lara_syntax.specs.Reading.{Counted}
+use Rattle.lara_syntax.specs.Reading.{Counted, CountedDefs, CountedDef}
 use Rattle.lara_syntax.specs.WordReading.{sign}
-use Rattle.lara_syntax.specs.Grammar.{Operand, leaf, inside, Table, join, union, agg, rename, operand, SomeOrder, no_order, order, Statement, assign, print}
-use Rattle.lara_syntax.specs.WordGrammar.{Word, Many}
+use Rattle.lara_syntax.specs.Grammar.{Operand, leaf, inside, Table, join, union, agg, rename, operand, SomeOrder, no_order, order, Statement, assign, print, map, promote, Def, KeyDef, Defs, MoreDefs, filter, def, defs, key_def, no_defs, more_defs}
+use Rattle.lara_syntax.specs.WordGrammar.{Word, Many, CommaThen, comma_then}
 use Rattle.lara_syntax.proofs.Levels.{inside_rest}
 use Rattle.lara_syntax.proofs.Turns.{read_of, rest_is, err_ok, none_some}
-use Rattle.lara_syntax.proofs.TableReaders.{assign_rest, print_rest, has_room, next_behind, next_behind-one}
+use Rattle.lara_syntax.specs.declared.fault.Fault.TheVariants as faults
+use Rattle.lara_syntax.proofs.TableReaders.{comma_def-one, defs-some, defs-none, defs-fail, assign_rest, print_rest, has_room, next_behind, next_behind-one}
 use Rattle.lara_syntax.proofs.Readers.{bind_ok}
-use Rattle.lara_syntax.proofs.SoundWords.{give_to, read_some, some_none, word_taken, sign_sound, keyword_sound, Sound, name_sound, listed}
-use Rattle.lara_syntax.proofs.Sound.{some_names_sound, pairs_sound, leaf_sound}
+use Rattle.lara_syntax.proofs.SoundWords.{give_to, read_some, some_none, word_taken, sign_sound, keyword_sound, Sound, name_sound, listed, comma_none, comma_sound}
+use Rattle.lara_syntax.proofs.Sound.{some_names_sound, pairs_sound, leaf_sound, val_col_sound, key_col_sound}
+use Rattle.lara_syntax.specs.ExprReading.{expr}
+use Rattle.lara_syntax.specs.declared.ast_part.AstDef.{AstDef}
+use Rattle.lara_syntax.proofs.ExprSound.{expr_sound}
 
--- a table with its operator words, which are in the count
-pub record Counts (X : Count → AstNode → Items → Items → Type 0) (limit taken : Count) (x : Counted) (ts u : Items) : Type 0 where
+-- ---- definitions
+
+def_sound : (limit : Count) (d : ℕ) (taken : Count) → IsWithin taken limit → Sound (λ x ts u. Counts (Def d) limit taken x ts u) (r.def limit d taken)
+unfolding r.def
+def_sound limit d taken le ts x u e =
+    let a = bind_ok (r.val_col ts) (λ c. words.sign Is >>= λ at. expr limit d taken >>= λ y. give (record { col = c; expr = y.0 }, y.1)) (x, u) e in
+    let b = bind_ok (words.sign Is a.1) (λ at. expr limit d taken >>= λ y. give (record { col = a.0; expr = y.0 }, y.1)) (x, u) a.3 in
+    let c = bind_ok (expr limit d taken b.1) (λ y. give (record { col = a.0; expr = y.0 }, y.1)) (x, u) b.3 in
+    let y = c.0 in
+    let s = expr_sound limit d taken le b.1 y c.1 c.2 in
+    give_to (λ z q. Counts (Def d) limit taken z ts q) (record { col = a.0; expr = y.0 }, y.1) c.1 x u c.3
+    (record { n = s.n; total = s.total; within = s.within; stands = def s.n b.0 a.0 y.0 ts a.1 b.1 c.1 (val_col_sound ts a.0 a.1 a.2) (sign_sound Is a.1 b.0 b.1 b.2) s.stands })
+
+key_def_sound : (limit : Count) (d : ℕ) (taken : Count) → IsWithin taken limit → Sound (λ x ts u. Counts (KeyDef d) limit taken x ts u) (r.key_def limit d taken)
+unfolding r.key_def
+key_def_sound limit d taken le ts x u e =
+    let a = bind_ok (r.key_col ts) (λ c. words.sign Is >>= λ at. expr limit d taken >>= λ y. give (record { col = c; expr = y.0 }, y.1)) (x, u) e in
+    let b = bind_ok (words.sign Is a.1) (λ at. expr limit d taken >>= λ y. give (record { col = a.0; expr = y.0 }, y.1)) (x, u) a.3 in
+    let c = bind_ok (expr limit d taken b.1) (λ y. give (record { col = a.0; expr = y.0 }, y.1)) (x, u) b.3 in
+    let y = c.0 in
+    let s = expr_sound limit d taken le b.1 y c.1 c.2 in
+    give_to (λ z q. Counts (KeyDef d) limit taken z ts q) (record { col = a.0; expr = y.0 }, y.1) c.1 x u c.3
+    (record { n = s.n; total = s.total; within = s.within; stands = key_def s.n b.0 a.0 y.0 ts a.1 b.1 c.1 (key_col_sound ts a.0 a.1 a.2) (sign_sound Is a.1 b.0 b.1 b.2) s.stands })
+
+-- definitions behind others
+record Behind (limit : Count) (d : ℕ) (xs ys : CountedDefs) (ts u : Items) : Type 0 where
+  pub zs : List AstDef
+  pub all : ys.0 ≡ xs.0 ++ zs
   pub n : Count
-  pub total : IsSum taken n x.1
-  pub within : IsWithin x.1 limit
-  pub stands : X n x.0 ts u
+  pub total : IsSum xs.1 n ys.1
+  pub within : IsWithin ys.1 limit
+  pub stands : MoreDefs d n zs ts u
+
+abbrev BehindWithin : Count → ℕ → ℕ → Type 0
+BehindWithin limit d n = (xs : List AstDef) (taken : Count) → IsWithin taken limit → (ts : Items) (ys : CountedDefs) (u : Items) → length ts < n → r.defs_from limit d (xs, taken) ts ≡ read_of ys u → Behind limit d (xs, taken) ys ts u
+
+no_more : (limit : Count) (d : ℕ) (xs : List AstDef) (taken : Count) → IsWithin taken limit → (ts : Items) → Behind limit d (xs, taken) (xs, taken) ts ts
+no_more limit d xs taken le ts = record { zs = []; all = sym (append-nil xs); n = none_counted; total = (omega arith, omega arith); within = le; stands = no_defs ts }
+
+one_more : (limit : Count) (d : ℕ) (xs : List AstDef) (taken : Count) (x : CountedDef) (ys : CountedDefs) (ts m u : Items) → CommaThen (λ y vs w. Counts (Def d) limit taken y vs w) x ts m → Behind limit d (xs ++ x.0 ∷ [], x.1) ys m u → Behind limit d (xs, taken) ys ts u
+one_more limit d xs taken x ys ts m u (comma_then at y a b c h k) rest = record {
+  zs = y.0 ∷ rest.zs;
+  all = rest.all ∙ append_assoc xs (y.0 ∷ []) rest.zs;
+  n = together k.n rest.n;
+  total = (omega (arith, k.total.0, rest.total.0), omega (arith, k.total.1, rest.total.1));
+  within = rest.within;
+  stands = more_defs k.n rest.n at y.0 rest.zs a b c u h k.stands rest.stands;
+}
+
+comma_def_sound : (limit : Count) (d : ℕ) (taken : Count) → IsWithin taken limit → (ts : Items) (x : CountedDef) (u : Items) → r.comma_def limit d taken ts ≡ read_of (Some x) u → CommaThen (λ y vs w. Counts (Def d) limit taken y vs w) x ts u
+unfolding r.comma_def
+comma_def_sound limit d taken le ts x u e = comma_sound (λ y vs w. Counts (Def d) limit taken y vs w) (r.def limit d taken) (def_sound limit d taken le) ts x u e
+
+comma_def_none : (limit : Count) (d : ℕ) (taken : Count) (ts u : Items) → r.comma_def limit d taken ts ≡ read_of None u → ts ≡ u
+unfolding r.comma_def
+comma_def_none limit d taken ts u e = comma_none (r.def limit d taken) ts u e
+
+within_one : (limit taken : Count) (x : CountedDef) (d : ℕ) (ts u : Items) → CommaThen (λ y vs w. Counts (Def d) limit taken y vs w) x ts u → IsWithin x.1 limit
+within_one limit taken x d ts u (comma_then at y a b c h k) = k.within
+
+defs_by : (limit : Count) (d n : ℕ) → BehindWithin limit d n → (xs : List AstDef) (taken : Count) → IsWithin taken limit → (o : Read (Option CountedDef)) (ts : Items) (ys : CountedDefs) (u : Items) → r.comma_def limit d taken ts ≡ o → length ts < suc n → r.defs_from limit d (xs, taken) ts ≡ read_of ys u → Behind limit d (xs, taken) ys ts u
+defs_by limit d n next xs taken le (Ok (None, m)) ts ys u h lt e =
+    give_to (λ z q. Behind limit d (xs, taken) z ts q) (xs, taken) m ys u (sym (defs-none limit d xs taken ts None m h refl) ∙ e)
+    (subst (λ (q : Items). Behind limit d (xs, taken) (xs, taken) ts q) (comma_def_none limit d taken ts m h) (no_more limit d xs taken le ts))
+defs_by limit d n next xs taken le (Ok (Some x, m)) ts ys u h lt e =
+    let c = comma_def_sound limit d taken le ts x m h in
+    let shorter = (comma_def-one limit d taken).shorter ts x m h in
+    one_more limit d xs taken x ys ts m u c (next (xs ++ x.0 ∷ []) x.1 (within_one limit taken x d ts m c) m ys u (omega (arith, lt, shorter)) (sym (defs-some limit d xs taken ts x m h) ∙ e))
+defs_by limit d n next xs taken le (Err c) ts ys u h lt e = absurd (err_ok {A = CountedDefs} c (ys, u) (sym (defs-fail limit d xs taken ts (faults.Stopped c) h) ∙ e))
+
+defs_within : (limit : Count) (d n : ℕ) → BehindWithin limit d n
+defs_within limit d zero = λ xs taken le ts ys u lt e. absurd (omega (arith, lt))
+defs_within limit d (suc n) = λ xs taken le ts ys u lt e. defs_by limit d n (defs_within limit d n) xs taken le (r.comma_def limit d taken ts) ts ys u refl lt e
+
+defs_sound : (limit : Count) (d : ℕ) (taken : Count) → IsWithin taken limit → (ts : Items) (x : CountedDefs) (u : Items) → r.defs limit d taken ts ≡ read_of x u → Counts (Defs d) limit taken x ts u
+unfolding r.defs
+defs_sound limit d taken le ts x u e =
+    let a = bind_ok (r.def limit d taken ts) (λ y. r.defs_from limit d (y.0 ∷ [], y.1)) (x, u) e in
+    let y = a.0 in
+    let first = def_sound limit d taken le ts y a.1 a.2 in
+    let others = defs_within limit d (suc (length a.1)) (y.0 ∷ []) y.1 first.within a.1 x u (omega arith) a.3 in
+    record {
+      n = together first.n others.n;
+      total = (omega (arith, first.total.0, others.total.0), omega (arith, first.total.1, others.total.1));
+      within = others.within;
+      stands = subst (λ (zs : List AstDef). Defs d (together first.n others.n) zs ts u) (sym others.all) (defs first.n others.n y.0 others.zs ts a.1 u first.stands others.stands);
+    }
+
+-- ---- operands and tables
 
 abbrev pub CountSound : (Count → AstNode → Items → Items → Type 0) → Count → (Count → Reader Counted) → Type 0
 CountSound X limit p = (taken : Count) → IsWithin taken limit → (ts : Items) (x : Counted) (u : Items) → p taken ts ≡ read_of x u → Counts X limit taken x ts u
@@ -101,6 +189,33 @@ agg_makes limit d taken at a t1 t2 t3 w first x u e =
     give_to (λ y q. Counts (Table d) limit taken y t1 q) (node at (op.Agg a.0 l.0), a.1) l.1 x u l.3
     (record { n = one_operator first.n; total = (omega (arith, first.total.0), omega (arith, first.total.1)); within = first.within; stands = agg d first.n at g.0 a.0 l.0 t1 t2 t3 g.1 l.1 w first.stands (keyword_sound key.By t3 g.0 g.1 g.2) (some_names_sound g.1 l.0 l.1 l.2) })
 
+map_makes : (limit : Count) (d : ℕ) → MakesOne limit d key.Map (r.map_rest limit d)
+map_makes limit d taken at a t1 t2 t3 w first x u e =
+    let g = bind_ok (words.keyword key.To t3) (λ to. r.defs limit d a.1 >>= λ ds. give (node at (op.Map a.0 ds.0), ds.1)) (x, u) e in
+    let l = bind_ok (r.defs limit d a.1 g.1) (λ ds. give (node at (op.Map a.0 ds.0), ds.1)) (x, u) g.3 in
+    let y = l.0 in
+    let s = defs_sound limit d a.1 first.within g.1 y l.1 l.2 in
+    give_to (λ z q. Counts (Table d) limit taken z t1 q) (node at (op.Map a.0 y.0), y.1) l.1 x u l.3
+    (record { n = one_operator (together first.n s.n); total = (omega (arith, first.total.0, s.total.0), omega (arith, first.total.1, s.total.1)); within = s.within; stands = map d first.n s.n at g.0 a.0 y.0 t1 t2 t3 g.1 l.1 w first.stands (keyword_sound key.To t3 g.0 g.1 g.2) s.stands })
+
+filter_makes : (limit : Count) (d : ℕ) → MakesOne limit d key.Filter (r.filter_rest limit d)
+filter_makes limit d taken at a t1 t2 t3 w first x u e =
+    let g = bind_ok (words.keyword key.Where t3) (λ wh. expr limit d a.1 >>= λ y. give (node at (op.Filter a.0 y.0), y.1)) (x, u) e in
+    let l = bind_ok (expr limit d a.1 g.1) (λ y. give (node at (op.Filter a.0 y.0), y.1)) (x, u) g.3 in
+    let y = l.0 in
+    let s = expr_sound limit d a.1 first.within g.1 y l.1 l.2 in
+    give_to (λ z q. Counts (Table d) limit taken z t1 q) (node at (op.Filter a.0 y.0), y.1) l.1 x u l.3
+    (record { n = one_operator (together first.n s.n); total = (omega (arith, first.total.0, s.total.0), omega (arith, first.total.1, s.total.1)); within = s.within; stands = filter d first.n s.n at g.0 a.0 y.0 t1 t2 t3 g.1 l.1 w first.stands (keyword_sound key.Where t3 g.0 g.1 g.2) s.stands })
+
+promote_makes : (limit : Count) (d : ℕ) → MakesOne limit d key.Promote (r.promote_rest limit d)
+promote_makes limit d taken at a t1 t2 t3 w first x u e =
+    let g = bind_ok (words.keyword key.To t3) (λ to. r.key_def limit d a.1 >>= λ c. give (node at (op.Promote a.0 c.0), c.1)) (x, u) e in
+    let l = bind_ok (r.key_def limit d a.1 g.1) (λ c. give (node at (op.Promote a.0 c.0), c.1)) (x, u) g.3 in
+    let y = l.0 in
+    let s = key_def_sound limit d a.1 first.within g.1 y l.1 l.2 in
+    give_to (λ z q. Counts (Table d) limit taken z t1 q) (node at (op.Promote a.0 y.0), y.1) l.1 x u l.3
+    (record { n = one_operator (together first.n s.n); total = (omega (arith, first.total.0, s.total.0), omega (arith, first.total.1, s.total.1)); within = s.within; stands = promote d first.n s.n at g.0 a.0 y.0 t1 t2 t3 g.1 l.1 w first.stands (keyword_sound key.To t3 g.0 g.1 g.2) s.stands })
+
 rename_makes : (limit : Count) (d : ℕ) → MakesOne limit d key.Rename r.rename_rest
 rename_makes limit d taken at a t1 t2 t3 w first x u e =
     let g = bind_ok (r.pairs t3) (λ ps. give (node at (op.Rename a.0 ps), a.1)) (x, u) e in
@@ -110,10 +225,13 @@ rename_makes limit d taken at a t1 t2 t3 w first x u e =
 lone_sound : (limit : Count) (d : ℕ) → CountSound (Operand d) limit (r.operand limit d) → CountSound (Table d) limit (r.operand limit d)
 lone_sound limit d os taken le ts x u e = let a = os taken le ts x u e in record { n = a.n; total = a.total; within = a.within; stands = operand d a.n x.0 ts u a.stands }
 
-table_when : (limit : Count) (d : ℕ) → CountSound (Operand d) limit (r.operand limit d) → (taken : Count) → IsWithin taken limit → (o : Option Lexeme) (ts : Items) (x : Counted) (u : Items) → head_word ts ≡ o → r.table_by limit (r.operand limit d) taken o ts ≡ read_of x u → Counts (Table d) limit taken x ts u
+table_when : (limit : Count) (d : ℕ) → CountSound (Operand d) limit (r.operand limit d) → (taken : Count) → IsWithin taken limit → (o : Option Lexeme) (ts : Items) (x : Counted) (u : Items) → head_word ts ≡ o → r.table_by limit d (r.operand limit d) taken o ts ≡ read_of x u → Counts (Table d) limit taken x ts u
 table_when limit d os taken le (Some (lex.Key key.Join)) ts x u h e = two_sound limit d op.Join key.Join (join d) os taken le ts x u h e
 table_when limit d os taken le (Some (lex.Key key.Union)) ts x u h e = two_sound limit d op.Union key.Union (union d) os taken le ts x u h e
 table_when limit d os taken le (Some (lex.Key key.Agg)) ts x u h e = one_sound limit d key.Agg r.agg_rest (agg_makes limit d) os taken le ts x u h e
+table_when limit d os taken le (Some (lex.Key key.Map)) ts x u h e = one_sound limit d key.Map (r.map_rest limit d) (map_makes limit d) os taken le ts x u h e
+table_when limit d os taken le (Some (lex.Key key.Filter)) ts x u h e = one_sound limit d key.Filter (r.filter_rest limit d) (filter_makes limit d) os taken le ts x u h e
+table_when limit d os taken le (Some (lex.Key key.Promote)) ts x u h e = one_sound limit d key.Promote (r.promote_rest limit d) (promote_makes limit d) os taken le ts x u h e
 table_when limit d os taken le (Some (lex.Key key.Rename)) ts x u h e = one_sound limit d key.Rename r.rename_rest (rename_makes limit d) os taken le ts x u h e
 table_when limit d os taken le w ts x u h e = lone_sound limit d os taken le ts x u e
 

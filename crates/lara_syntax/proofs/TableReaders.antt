@@ -1,5 +1,5 @@
 -- Each rule of tables and statements is a reader, and what takes a word.
-use Rattle.std.proofs.Common.{◌≡◌, ℕ, zero, suc, ◌<◌, List, [], ◌∷◌, ◌++◌, length, Option, Some, None, Ok, ap, arith, Bool, true, false, nat_lt}
+use Rattle.std.proofs.Common.{◌≡◌, ℕ, zero, suc, ◌<◌, List, [], ◌∷◌, ◌++◌, length, Option, Some, None, Ok, Err, refl, ap, arith, Bool, true, false, nat_lt}
 use Rattle.lara_syntax.specs.declared.item.Lexeme.{Lexeme}
 use Rattle.lara_syntax.specs.declared.item.Lexeme.TheVariants as lex
 use Rattle.lara_syntax.specs.declared.item.Keyword.TheVariants as key
@@ -16,13 +16,79 @@ use Rattle.lara_syntax.specs.declared.ast.AstStatement.TheVariants as st
 use Rattle.std.proofs.lemmas.List.{length-append}
 use Rattle.lara_syntax.specs.Limits.{Limits, none_counted, one_operator}
 use Rattle.lara_syntax.specs.declared.count.Count.{Count}
-use Rattle.lara_syntax.specs.Steps.{Items, Reader, ◌>>=◌, give, refuse, peek, skip, head_word, Fails}
-use Rattle.lara_syntax.specs.Reading.{some_names, leaf, Counted, operand_by, operand_with, pairs, operator_word, two_by, one_by, agg_rest, rename_rest, table_by, table_with, inside, operand, table, some_order, some_order_by, statement, statement_by, no_room, next_by, next_statement, statements, tree_of, script}
+use Rattle.lara_syntax.specs.Steps.{Items, Read, Reader, onward, ◌>>=◌, give, refuse, peek, skip, head_word, Fails}
+use Rattle.lara_syntax.specs.ExprReading.{expr}
+use Rattle.lara_syntax.proofs.ExprReaders.{expr-reads}
+use Rattle.lara_syntax.specs.declared.ast_expr.AstExpr.{AstExpr}
+use Rattle.lara_syntax.specs.declared.ast_part.AstDef.{AstDef}
+use Rattle.lara_syntax.specs.declared.fault.Fault.TheVariants as faults
+use Rattle.lara_syntax.specs.Reading.{key_col, val_col, CountedDef, CountedDefs, def, comma_def, def_behind, more_def, defs_from, defs, key_def, map_rest, filter_rest, promote_rest, some_names, leaf, Counted, operand_by, operand_with, pairs, operator_word, two_by, one_by, agg_rest, rename_rest, table_by, table_with, inside, operand, table, some_order, some_order_by, statement, statement_by, no_room, next_by, next_statement, statements, tree_of, script}
 use Rattle.lara_syntax.specs.WordReading.{sign, keyword, name, name_by}
 use Rattle.lara_syntax.proofs.Levels.{inside_rest}
-use Rattle.lara_syntax.proofs.Turns.{TakesOne, read_of, err_ok, none_some, rest_is, list-some, list-none, list-fail}
-use Rattle.lara_syntax.proofs.Readers.{IsReader, reads_bind, reads_give, reads_refuse, reads_peek, reads_skip, reads_list, skip_shortens, bind_ok}
-use Rattle.lara_syntax.proofs.RuleReaders.{reads_cond, sign-reads, keyword-reads, name-reads, some_names-reads, pairs-reads, leaf-reads}
+use Rattle.lara_syntax.proofs.Turns.{Shortens, TakesOne, turns-some, turns-none, turns-fail, read_of, err_ok, none_some, rest_is, list-some, list-none, list-fail}
+use Rattle.lara_syntax.proofs.Readers.{IsReader, reads_bind, reads_give, reads_refuse, reads_peek, reads_skip, reads_list, reads_turns, skip_shortens, bind_ok}
+use Rattle.lara_syntax.proofs.RuleReaders.{reads_cond, comma-reads, comma-one, key_col-reads, val_col-reads, sign-reads, keyword-reads, name-reads, some_names-reads, pairs-reads, leaf-reads}
+
+-- ---- definitions
+
+-- what is made of an expression
+pub made-reads : {A : Type 0} (limit : Count) (levels : ℕ) (taken : Count) (make : AstExpr → A) → IsReader {A = A × Count} (expr limit levels taken >>= λ e. give (make e.0, e.1))
+made-reads {A = A} limit levels taken make = reads_bind (expr limit levels taken) (λ e. give (make e.0, e.1)) (expr-reads limit levels taken) (λ e. reads_give {A = A × Count} (make e.0, e.1))
+
+pub def-reads : (limit : Count) (levels : ℕ) (taken : Count) → IsReader (def limit levels taken)
+unfolding def
+def-reads limit levels taken = reads_bind val_col _ val_col-reads (λ c. reads_bind (sign Is) _ (sign-reads Is) (λ at. reads_bind (expr limit levels taken) _ (expr-reads limit levels taken) (λ e. reads_give _)))
+
+pub comma_def-reads : (limit : Count) (levels : ℕ) (taken : Count) → IsReader (comma_def limit levels taken)
+unfolding comma_def
+comma_def-reads limit levels taken = comma-reads (def limit levels taken) (def-reads limit levels taken)
+
+pub comma_def-one : (limit : Count) (levels : ℕ) (taken : Count) → TakesOne (comma_def limit levels taken)
+unfolding comma_def
+comma_def-one limit levels taken = comma-one (def limit levels taken) (def-reads limit levels taken)
+
+pub more_def-reads : (limit : Count) (levels : ℕ) (xs : CountedDefs) → IsReader (more_def limit levels xs)
+more_def-reads limit levels xs = reads_bind (comma_def limit levels xs.1) (λ x. give (def_behind xs x)) (comma_def-reads limit levels xs.1) (λ x. reads_give _)
+
+shorter_by : (r : Read (Option CountedDef)) (xs ys : CountedDefs) (ts u : Items) → ((x : CountedDef) → r ≡ read_of (Some x) u → length u < length ts) → onward r (λ x. give (def_behind xs x)) ≡ read_of (Some ys) u → length u < length ts
+shorter_by (Ok (None, w)) xs ys ts u h e = absurd (none_some w u ys e)
+shorter_by (Ok (Some x, w)) xs ys ts u h e = h x (ap (λ (t : Items). read_of (Some x) t) (rest_is _ w _ u e))
+shorter_by (Err d) xs ys ts u h e = absurd (err_ok {A = Option CountedDefs} d _ e)
+
+-- each definition takes a word
+pub more_def-shorter : (limit : Count) (levels : ℕ) → Shortens (more_def limit levels)
+more_def-shorter limit levels = record { shorter = λ xs ts ys u e. shorter_by (comma_def limit levels xs.1 ts) xs ys ts u (λ x h. (comma_def-one limit levels xs.1).shorter ts x u h) e }
+
+pub defs_from-reads : (limit : Count) (levels : ℕ) (xs : CountedDefs) → IsReader (defs_from limit levels xs)
+unfolding defs_from
+defs_from-reads limit levels xs = reads_turns (more_def limit levels) (more_def-shorter limit levels) (more_def-reads limit levels) xs
+
+pub defs-reads : (limit : Count) (levels : ℕ) (taken : Count) → IsReader (defs limit levels taken)
+unfolding defs
+defs-reads limit levels taken = reads_bind (def limit levels taken) _ (def-reads limit levels taken) (λ x. defs_from-reads limit levels (x.0 ∷ [], x.1))
+
+pub key_def-reads : (limit : Count) (levels : ℕ) (taken : Count) → IsReader (key_def limit levels taken)
+unfolding key_def
+key_def-reads limit levels taken = reads_bind key_col _ key_col-reads (λ c. reads_bind (sign Is) _ (sign-reads Is) (λ at. reads_bind (expr limit levels taken) _ (expr-reads limit levels taken) (λ e. reads_give _)))
+
+-- ---- the loop of definitions
+
+pub defs-some : (limit : Count) (levels : ℕ) (xs : List AstDef) (taken : Count) (ts : Items) (x : CountedDef) (u : Items) → comma_def limit levels taken ts ≡ Ok (Some x, u) → defs_from limit levels (xs, taken) ts ≡ defs_from limit levels (xs ++ x.0 ∷ [], x.1) u
+unfolding defs_from
+defs-some limit levels xs taken ts x u e = turns-some (more_def limit levels) (more_def-shorter limit levels) (xs, taken) ts (xs ++ x.0 ∷ [], x.1) u (rw e refl)
+
+pub defs-none : (limit : Count) (levels : ℕ) (xs : List AstDef) (taken : Count) (ts : Items) (o : Option CountedDef) (u : Items) → comma_def limit levels taken ts ≡ Ok (o, u) → o ≡ None → defs_from limit levels (xs, taken) ts ≡ Ok ((xs, taken), u)
+unfolding defs_from
+defs-none limit levels xs taken ts o u e n = turns-none (more_def limit levels) (more_def-shorter limit levels) (xs, taken) ts u (rw (e, n) refl)
+
+pub defs-fail : (limit : Count) (levels : ℕ) (xs : List AstDef) (taken : Count) (ts : Items) (e : Fault) → Fails e (comma_def limit levels taken ts) → Fails e (defs_from limit levels (xs, taken) ts)
+unfolding defs_from
+defs-fail limit levels xs taken ts faults.Memory h = tt
+defs-fail limit levels xs taken ts (faults.Stopped d) h = turns-fail (more_def limit levels) (more_def-shorter limit levels) (xs, taken) ts (faults.Stopped d) (rw h refl)
+
+pub ruleset def_laws = (comma_def-one, defs-some, defs-none, defs-fail)
+
+-- ---- operands and tables
 
 -- a leaf with the count before it
 abbrev pub counted : Count → AstNode → Reader Counted
@@ -59,6 +125,15 @@ one_by-reads rest ir o io taken at = reads_bind (o (one_operator taken)) (rest a
 pub agg_rest-reads : RestReads agg_rest
 agg_rest-reads at a = reads_bind (keyword key.By) _ (keyword-reads key.By) (λ by. reads_bind some_names _ some_names-reads (λ ns. reads_give _))
 
+pub map_rest-reads : (limit : Count) (levels : ℕ) → RestReads (map_rest limit levels)
+map_rest-reads limit levels at a = reads_bind (keyword key.To) _ (keyword-reads key.To) (λ to. reads_bind (defs limit levels a.1) _ (defs-reads limit levels a.1) (λ ds. reads_give _))
+
+pub filter_rest-reads : (limit : Count) (levels : ℕ) → RestReads (filter_rest limit levels)
+filter_rest-reads limit levels at a = reads_bind (keyword key.Where) _ (keyword-reads key.Where) (λ wh. reads_bind (expr limit levels a.1) _ (expr-reads limit levels a.1) (λ e. reads_give _))
+
+pub promote_rest-reads : (limit : Count) (levels : ℕ) → RestReads (promote_rest limit levels)
+promote_rest-reads limit levels at a = reads_bind (keyword key.To) _ (keyword-reads key.To) (λ to. reads_bind (key_def limit levels a.1) _ (key_def-reads limit levels a.1) (λ c. reads_give _))
+
 pub rename_rest-reads : RestReads rename_rest
 rename_rest-reads at a = reads_bind pairs _ pairs-reads (λ ps. reads_give _)
 
@@ -66,15 +141,18 @@ rename_rest-reads at a = reads_bind pairs _ pairs-reads (λ ps. reads_give _)
 pub operator-reads : (limit taken : Count) (f : ℕ → Reader Counted) → ((at : ℕ) → IsReader (f at)) → IsReader (operator_word limit taken >>= f)
 operator-reads limit taken f ir = reads_bind (operator_word limit taken) f (operator_word-reads limit taken) ir
 
-table_by-reads : (limit : Count) (o : Count → Reader Counted) → AreReaders o → (taken : Count) (w : Option Lexeme) → IsReader (table_by limit o taken w)
-table_by-reads limit o io taken (Some (lex.Key key.Join)) = operator-reads limit taken (two_by op.Join o taken) (two_by-reads op.Join o io taken)
-table_by-reads limit o io taken (Some (lex.Key key.Union)) = operator-reads limit taken (two_by op.Union o taken) (two_by-reads op.Union o io taken)
-table_by-reads limit o io taken (Some (lex.Key key.Agg)) = operator-reads limit taken (one_by agg_rest o taken) (one_by-reads agg_rest agg_rest-reads o io taken)
-table_by-reads limit o io taken (Some (lex.Key key.Rename)) = operator-reads limit taken (one_by rename_rest o taken) (one_by-reads rename_rest rename_rest-reads o io taken)
-table_by-reads limit o io taken w = io taken
+table_by-reads : (limit : Count) (levels : ℕ) (o : Count → Reader Counted) → AreReaders o → (taken : Count) (w : Option Lexeme) → IsReader (table_by limit levels o taken w)
+table_by-reads limit levels o io taken (Some (lex.Key key.Join)) = operator-reads limit taken (two_by op.Join o taken) (two_by-reads op.Join o io taken)
+table_by-reads limit levels o io taken (Some (lex.Key key.Union)) = operator-reads limit taken (two_by op.Union o taken) (two_by-reads op.Union o io taken)
+table_by-reads limit levels o io taken (Some (lex.Key key.Agg)) = operator-reads limit taken (one_by agg_rest o taken) (one_by-reads agg_rest agg_rest-reads o io taken)
+table_by-reads limit levels o io taken (Some (lex.Key key.Map)) = operator-reads limit taken (one_by (map_rest limit levels) o taken) (one_by-reads (map_rest limit levels) (map_rest-reads limit levels) o io taken)
+table_by-reads limit levels o io taken (Some (lex.Key key.Filter)) = operator-reads limit taken (one_by (filter_rest limit levels) o taken) (one_by-reads (filter_rest limit levels) (filter_rest-reads limit levels) o io taken)
+table_by-reads limit levels o io taken (Some (lex.Key key.Promote)) = operator-reads limit taken (one_by (promote_rest limit levels) o taken) (one_by-reads (promote_rest limit levels) (promote_rest-reads limit levels) o io taken)
+table_by-reads limit levels o io taken (Some (lex.Key key.Rename)) = operator-reads limit taken (one_by rename_rest o taken) (one_by-reads rename_rest rename_rest-reads o io taken)
+table_by-reads limit levels o io taken w = io taken
 
-table_with-reads : (limit : Count) (o : Count → Reader Counted) → AreReaders o → AreReaders (table_with limit o)
-table_with-reads limit o io taken = reads_bind peek (table_by limit o taken) reads_peek (table_by-reads limit o io taken)
+table_with-reads : (limit : Count) (levels : ℕ) (o : Count → Reader Counted) → AreReaders o → AreReaders (table_with limit levels o)
+table_with-reads limit levels o io taken = reads_bind peek (table_by limit levels o taken) reads_peek (table_by-reads limit levels o io taken)
 
 -- a table in brackets behind its (
 bracketed-reads : (p : Reader Counted) → IsReader p → IsReader (p >>= λ x. sign Close >>= λ end. give x)
@@ -83,7 +161,7 @@ bracketed-reads p ip = reads_bind p _ ip (λ x. reads_bind (sign Close) _ (sign-
 pub inside-reads : (limit : Count) (levels : ℕ) → AreReaders (inside limit levels)
 unfolding inside
 inside-reads limit zero taken = reads_refuse TooMany
-inside-reads limit (suc levels) taken = reads_bind _ _ reads_skip (λ at. bracketed-reads (table_with limit (operand_with (inside limit levels)) taken) (table_with-reads limit (operand_with (inside limit levels)) (operand_with-reads (inside limit levels) (inside-reads limit levels)) taken))
+inside-reads limit (suc levels) taken = reads_bind _ _ reads_skip (λ at. bracketed-reads (table_with limit levels (operand_with (inside limit levels)) taken) (table_with-reads limit levels (operand_with (inside limit levels)) (operand_with-reads (inside limit levels) (inside-reads limit levels)) taken))
 
 pub operand-reads : (limit : Count) (levels : ℕ) → AreReaders (operand limit levels)
 unfolding operand
@@ -91,7 +169,7 @@ operand-reads limit levels = operand_with-reads (inside limit levels) (inside-re
 
 pub table-reads : (limit : Count) (levels : ℕ) → AreReaders (table limit levels)
 unfolding table
-table-reads limit levels = table_with-reads limit (operand limit levels) (operand-reads limit levels)
+table-reads limit levels = table_with-reads limit levels (operand limit levels) (operand-reads limit levels)
 
 pub inside_rest-reads : (limit : Count) (levels : ℕ) (taken : Count) (at : ℕ) → IsReader (inside_rest limit levels taken at)
 inside_rest-reads limit levels taken at = bracketed-reads (table limit levels taken) (table-reads limit levels taken)

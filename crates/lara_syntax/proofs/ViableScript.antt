@@ -20,7 +20,8 @@ use Rattle.lara_syntax.proofs.RuleReaders.{sign-reads, name-reads, some_names-re
 use Rattle.lara_syntax.proofs.TableReaders.{table-reads, some_order-reads, statement-reads, statement-one, assign_end, assign_end-reads, assign_rest, assign_rest-reads, print_rest, print_rest-reads, next_statement-one, has_room, next_behind, next_behind-one, next_behind-reads, statements-reads, tree_given, tree_given-reads}
 use Rattle.lara_syntax.proofs.Complete.{AfterNames, AfterTable}
 use Rattle.lara_syntax.proofs.Viable.{IsViable, IsCase, case_viable, case_refuse, viable_bind, viable_give, viable_choice}
-use Rattle.lara_syntax.proofs.ViableLoop.{Keeps, IsItem, viable_list, keeps_viable, keeps_none, keeps_choice, viable_item}
+use Rattle.lara_syntax.proofs.ViableLoop.{IsItem, viable_list, keeps_viable, keeps_none, keeps_choice, viable_item}
+use Rattle.lara_syntax.proofs.ViableTurns.{Keeps}
 use Rattle.lara_syntax.proofs.ViableWords.{key_spelled, any, next_is, at_end, token, viable_behind, quiet_takes, sign_viable, sign_starts, name_viable}
 use Rattle.lara_syntax.proofs.ViableTables.{some_names_viable}
 use Rattle.lara_syntax.proofs.ViableOperands.{table_viable}
@@ -119,7 +120,6 @@ next_item limits = record {
   ends = λ ys v after. no_next limits (has_room limits ys) v after;
   rests = λ ys ts u e after. tt;
   begins = λ ys ts x u e. tt;
-  wide = λ w after. tt;
   keeps = λ ys. next_keeps limits (has_room limits ys);
   viable = λ ys. next_viable limits (has_room limits ys);
 }

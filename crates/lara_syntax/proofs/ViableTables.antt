@@ -22,7 +22,8 @@ use Rattle.lara_syntax.proofs.Readers.{IsReader, reads_bind, reads_give, reads_i
 use Rattle.lara_syntax.proofs.RuleReaders.{sign-reads, name-reads, keyword-reads, pair-reads, key_type-reads, val_type-reads, lit-reads, comma-reads, comma-one, key_col-reads, some_key_cols-reads, val_col-reads, val_cols-reads, table_type-reads, lits-reads, some_lits-reads, entry-reads, entry_here-reads, semi_entry-reads, semi_entry-one, entries_from-reads, some_entries-reads}
 use Rattle.lara_syntax.proofs.Complete.{NoComma, AfterNames, no_names_by, names_comma}
 use Rattle.lara_syntax.proofs.Viable.{IsViable, IsCase, Starts, case_viable, case_refuse, viable_bind, viable_give, viable_choice}
-use Rattle.lara_syntax.proofs.ViableLoop.{Keeps, IsItem, loop_starts, viable_list, keeps_viable, keeps_none, keeps_choice, viable_item}
+use Rattle.lara_syntax.proofs.ViableLoop.{IsItem, loop_starts, viable_list, keeps_viable, keeps_none, keeps_choice, viable_item}
+use Rattle.lara_syntax.proofs.ViableTurns.{Keeps}
 use Rattle.lara_syntax.proofs.ViableWords.{name_spelled, a_name, any, next_is, token, keyword_viable, viable_behind, Takes, quiet_takes, refuse_takes, sign_takes, sign_viable, sign_starts, name_takes, name_viable, key_type_viable, val_type_viable, lit_takes, case_cond, keeps_cond, lit_viable, first_takes, second_takes, commas_viable, quiet_list, no_list, empty_list}
 
 -- ---- names
@@ -227,7 +228,6 @@ semi_item = record {
   ends = λ ys v after. no_semi_entry v after;
   rests = λ ys ts u e after. semi_rests_by (head_word ts) ts u e after refl;
   begins = λ ys ts x u e. semi_begins_by (head_word ts) ts x u e;
-  wide = close_after;
   keeps = λ ys. keeps_choice AfterEntry r.semi_entry_by semi_entry-one semi_keeps_by;
   viable = λ ys. viable_item (next_is CloseBrace) r.semi_entry_by semi_entry-one no_semi_entry semi_cases;
 }

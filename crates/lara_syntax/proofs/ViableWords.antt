@@ -25,7 +25,8 @@ use Rattle.lara_syntax.proofs.RuleReaders.{comma-reads, comma-one}
 use Rattle.lara_syntax.proofs.Complete.{head_is, sign_reads, keyword_reads, NoComma, no_comma}
 use Rattle.lara_syntax.proofs.SoundWords.{sign_sound, keyword_sound, name_sound}
 use Rattle.lara_syntax.proofs.Viable.{Goes, IsViable, IsCase, Quiet, Starts, same_end, viable_narrow, case_viable, case_refuse, viable_bind, viable_give, viable_choice}
-use Rattle.lara_syntax.proofs.ViableLoop.{Keeps, IsItem, viable_list, keeps_viable, keeps_none, keeps_choice, viable_item}
+use Rattle.lara_syntax.proofs.ViableLoop.{IsItem, viable_list, keeps_viable, keeps_none, keeps_choice, viable_item}
+use Rattle.lara_syntax.proofs.ViableTurns.{Keeps}
 
 -- ---- what may follow
 
@@ -222,7 +223,6 @@ comma_item F not_comma p ip vp = record {
   ends = λ ys v after. no_comma p v (not_comma (head_word v) after);
   rests = λ ys ts u e after. tt;
   begins = λ ys ts x u e. tt;
-  wide = λ w after. tt;
   keeps = λ ys. comma_keeps any p ip vp;
   viable = λ ys. comma_viable F not_comma p ip (viable_narrow F any (λ w a. tt) p vp);
 }

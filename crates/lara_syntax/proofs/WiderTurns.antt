@@ -1,11 +1,10 @@
 -- Turns, and what follows a comma, with wider limits.
-use Rattle.std.proofs.Common.{inl, inr, ◌≡◌, ◌<◌, ℕ, zero, suc, length, Option, Some, None, Ok, Err, refl, sym, ap, ◌∙◌, arith}
+use Rattle.std.proofs.Common.{inl, inr, ◌≡◌, ◌<◌, ℕ, zero, suc, length, Option, Some, None, Ok, Err, refl, sym, arith}
 use Rattle.lara_syntax.specs.declared.item.Lexeme.{Lexeme}
 use Rattle.lara_syntax.specs.declared.item.Lexeme.TheVariants as lex
 use Rattle.lara_syntax.specs.declared.item.Sign.TheVariants.{Comma}
-use Rattle.lara_syntax.specs.declared.fault.Stop.{Stop}
 use Rattle.lara_syntax.specs.declared.fault.Fault.TheVariants as faults
-use Rattle.lara_syntax.specs.Steps.{Items, Read, Reader, onward, ◌>>=◌, give, skip, turn, turns, head_word}
+use Rattle.lara_syntax.specs.Steps.{Items, Read, Reader, ◌>>=◌, give, skip, turn, turns, head_word}
 use Rattle.lara_syntax.specs.WordReading.{comma_by, comma_then}
 use Rattle.lara_syntax.proofs.Turns.{Shortens, read_of, erred, turns-step, turns-some, turns-none, turns-fail}
 use Rattle.lara_syntax.proofs.Readers.{IsReader, reads_bind, reads_give, reads_turns}

@@ -3,7 +3,7 @@ use Rattle.std.specs.Prelude.{◌≤◌, ℕ, suc, List, [], ◌∷◌, length, 
 use Rattle.lara_key.specs.declared.key.KeyType.{KeyType}
 use Rattle.lara_semiring.specs.declared.value.ValType.{ValType}
 use Rattle.lara_syntax.specs.declared.item.Keyword.TheVariants as key
-use Rattle.lara_syntax.specs.declared.item.Sign.TheVariants.{Is, Semi, Colon, OpenBracket, CloseBracket, OpenBrace, CloseBrace, Open, Close}
+use Rattle.lara_syntax.specs.declared.item.Sign.TheVariants.{Is, Semi, Comma, Colon, OpenBracket, CloseBracket, OpenBrace, CloseBrace, Open, Close}
 use Rattle.lara_syntax.specs.declared.count.Count.{Count}
 use Rattle.lara_syntax.specs.declared.ast.Ast.{Ast}
 use Rattle.lara_syntax.specs.declared.ast.AstName.{AstName}
@@ -15,12 +15,16 @@ use Rattle.lara_syntax.specs.declared.ast.AstLit.{AstLit}
 use Rattle.lara_syntax.specs.declared.ast.AstEntry.{AstEntry}
 use Rattle.lara_syntax.specs.declared.ast.AstNode.{AstNode}
 use Rattle.lara_syntax.specs.declared.ast.AstOp.TheVariants as op
+use Rattle.lara_syntax.specs.declared.ast_expr.AstExpr.{AstExpr}
+use Rattle.lara_syntax.specs.declared.ast_part.AstDef.{AstDef}
+use Rattle.lara_syntax.specs.declared.ast_part.AstKeyDef.{AstKeyDef}
 use Rattle.lara_syntax.specs.declared.ast_part.AstPair.{AstPair}
 use Rattle.lara_syntax.specs.declared.ast.AstStatement.{AstStatement}
 use Rattle.lara_syntax.specs.declared.ast.AstStatement.TheVariants as st
 use Rattle.lara_syntax.specs.Limits.{Limits, none_counted, one_operator, together, IsWithin}
 use Rattle.lara_syntax.specs.Steps.{Items}
 use Rattle.lara_syntax.specs.Places.{node, first_at}
+use Rattle.lara_syntax.specs.ExprGrammar.{Expr}
 use Rattle.lara_syntax.specs.WordGrammar.{Mark, Key, Named, Lit, KeyTyped, ValTyped, Many, Commas, Maybe}
 
 -- ---- columns
@@ -72,6 +76,33 @@ pub data Pair : AstPair → Items → Items → Type 0 where
       → Named x ts us → Key key.To at us vs → Named y vs rest
       → Pair (record { old = x; new = y }) ts rest
 
+-- ---- definitions, with the levels that may be opened in them and what they count
+
+-- def = val_col "=" expr
+pub data Def (d : ℕ) : Count → AstDef → Items → Items → Type 0 where
+  def : (n : Count) (at : ℕ) (c : AstValCol) (e : AstExpr) (ts us vs rest : Items)
+      → ValCol c ts us → Mark Is at us vs → Expr d n e vs rest
+      → Def d n (record { col = c; expr = e }) ts rest
+
+-- { "," def }
+pub data MoreDefs (d : ℕ) : Count → List AstDef → Items → Items → Type 0 where
+  no_defs : (rest : Items) → MoreDefs d none_counted [] rest rest
+  more_defs : (m n : Count) (at : ℕ) (x : AstDef) (xs : List AstDef) (ts us vs rest : Items)
+      → Mark Comma at ts us → Def d m x us vs → MoreDefs d n xs vs rest
+      → MoreDefs d (together m n) (x ∷ xs) ts rest
+
+-- defs = def { "," def }
+pub data Defs (d : ℕ) : Count → List AstDef → Items → Items → Type 0 where
+  defs : (m n : Count) (x : AstDef) (xs : List AstDef) (ts us rest : Items)
+      → Def d m x ts us → MoreDefs d n xs us rest
+      → Defs d (together m n) (x ∷ xs) ts rest
+
+-- key_def = key_col "=" expr
+pub data KeyDef (d : ℕ) : Count → AstKeyDef → Items → Items → Type 0 where
+  key_def : (n : Count) (at : ℕ) (c : AstKeyCol) (e : AstExpr) (ts us vs rest : Items)
+      → KeyCol c ts us → Mark Is at us vs → Expr d n e vs rest
+      → KeyDef d n (record { col = c; expr = e }) ts rest
+
 -- ---- tables
 
 -- a table that stands on no other: leaf = NAME | "load" NAME | "table" type "{" [ entries ] "}"
@@ -82,7 +113,7 @@ pub data Leaf : AstNode → Items → Items → Type 0 where
       → Key key.Table at t1 t2 → TypeOf ty t2 t3 → Mark OpenBrace a t3 t4 → Maybe Entries es t4 t5 → Mark CloseBrace b t5 rest
       → Leaf (node at (op.Literal ty es)) t1 rest
 
--- A number: how many levels of ( may be opened. A count: the operator words.
+-- A number: how many levels may be opened. A count: what they have of what is counted.
 mutual
   -- operand = leaf | "(" table ")"
   pub data Operand : ℕ → Count → AstNode → Items → Items → Type 0 where
@@ -91,7 +122,9 @@ mutual
         → Mark Open a t1 t2 → Table d n x t2 t3 → Mark Close b t3 rest
         → Operand (suc d) n x t1 rest
 
-  -- table = "join" operand operand | "union" operand operand | "agg" operand "by" [ names ] | "rename" operand pair { "," pair } | operand
+  -- table = "join" operand operand | "union" operand operand | "agg" operand "by" [ names ]
+  --       | "map" operand "to" defs | "filter" operand "where" expr | "promote" operand "to" key_def
+  --       | "rename" operand pair { "," pair } | operand
   pub data Table : ℕ → Count → AstNode → Items → Items → Type 0 where
     join : (d : ℕ) (m n : Count) (at : ℕ) (x y : AstNode) (t1 t2 t3 rest : Items)
         → Key key.Join at t1 t2 → Operand d m x t2 t3 → Operand d n y t3 rest
@@ -102,6 +135,15 @@ mutual
     agg : (d : ℕ) (n : Count) (at by : ℕ) (x : AstNode) (ns : List AstName) (t1 t2 t3 t4 rest : Items)
         → Key key.Agg at t1 t2 → Operand d n x t2 t3 → Key key.By by t3 t4 → Maybe (Commas Named) ns t4 rest
         → Table d (one_operator n) (node at (op.Agg x ns)) t1 rest
+    map : (d : ℕ) (m n : Count) (at to : ℕ) (x : AstNode) (ds : List AstDef) (t1 t2 t3 t4 rest : Items)
+        → Key key.Map at t1 t2 → Operand d m x t2 t3 → Key key.To to t3 t4 → Defs d n ds t4 rest
+        → Table d (one_operator (together m n)) (node at (op.Map x ds)) t1 rest
+    filter : (d : ℕ) (m n : Count) (at wh : ℕ) (x : AstNode) (e : AstExpr) (t1 t2 t3 t4 rest : Items)
+        → Key key.Filter at t1 t2 → Operand d m x t2 t3 → Key key.Where wh t3 t4 → Expr d n e t4 rest
+        → Table d (one_operator (together m n)) (node at (op.Filter x e)) t1 rest
+    promote : (d : ℕ) (m n : Count) (at to : ℕ) (x : AstNode) (c : AstKeyDef) (t1 t2 t3 t4 rest : Items)
+        → Key key.Promote at t1 t2 → Operand d m x t2 t3 → Key key.To to t3 t4 → KeyDef d n c t4 rest
+        → Table d (one_operator (together m n)) (node at (op.Promote x c)) t1 rest
     rename : (d : ℕ) (n : Count) (at : ℕ) (x : AstNode) (ps : List AstPair) (t1 t2 t3 rest : Items)
         → Key key.Rename at t1 t2 → Operand d n x t2 t3 → Commas Pair ps t3 rest
         → Table d (one_operator n) (node at (op.Rename x ps)) t1 rest

@@ -22,7 +22,7 @@ together m n = record { operators = m.operators + n.operators; signs = m.signs +
 abbrev pub IsWithin : Count → Count → Type 0
 IsWithin n most = (n.operators ≤ most.operators) × (n.signs ≤ most.signs)
 
--- how many statements a script may have, how many levels of ( a table, and how many of each counted word a statement
+-- how many statements a script may have, how many levels a table with its expressions, and how much of what is counted a statement
 pub record Limits : Type 0 where
   pub statements : ℕ
   pub levels : ℕ

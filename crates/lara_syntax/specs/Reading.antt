@@ -1,5 +1,5 @@
 -- Reading from left to right: each rule of the grammar by the word that is next.
-use Rattle.std.specs.Prelude.{ℕ, zero, suc, Bool, true, false, nat_lt, List, [], ◌∷◌, length, Option, Some, None, if◌then◌else◌}
+use Rattle.std.specs.Prelude.{ℕ, zero, suc, Bool, true, false, nat_lt, List, [], ◌∷◌, ◌++◌, length, Option, Some, None, if◌then◌else◌}
 use Rattle.lara_syntax.specs.declared.item.Lexeme.{Lexeme}
 use Rattle.lara_syntax.specs.declared.item.Lexeme.TheVariants as lex
 use Rattle.lara_syntax.specs.declared.item.Keyword.TheVariants as key
@@ -18,12 +18,15 @@ use Rattle.lara_syntax.specs.declared.ast.AstEntry.{AstEntry}
 use Rattle.lara_syntax.specs.declared.ast.AstNode.{AstNode}
 use Rattle.lara_syntax.specs.declared.ast.AstOp.{AstOp}
 use Rattle.lara_syntax.specs.declared.ast.AstOp.TheVariants as op
+use Rattle.lara_syntax.specs.declared.ast_part.AstDef.{AstDef}
+use Rattle.lara_syntax.specs.declared.ast_part.AstKeyDef.{AstKeyDef}
 use Rattle.lara_syntax.specs.declared.ast_part.AstPair.{AstPair}
 use Rattle.lara_syntax.specs.declared.ast.AstStatement.{AstStatement}
 use Rattle.lara_syntax.specs.declared.ast.AstStatement.TheVariants as st
 use Rattle.lara_syntax.specs.Limits.{Limits, none_counted, one_operator}
 use Rattle.lara_syntax.specs.Places.{node, first_at}
-use Rattle.lara_syntax.specs.Steps.{Reader, ◌>>=◌, give, refuse, peek, skip, items_from, list_from}
+use Rattle.lara_syntax.specs.Steps.{Reader, ◌>>=◌, give, refuse, peek, skip, turns, items_from, list_from}
+use Rattle.lara_syntax.specs.ExprReading.{expr}
 use Rattle.lara_syntax.specs.WordReading.{sign, keyword, name, key_type, val_type, is_literal, lit, comma_then}
 
 -- ---- names = NAME { "," NAME }
@@ -222,7 +225,59 @@ pairs = do
   x ← pair
   items_from comma_pair (x ∷ [])
 
+-- ---- definitions, each with what was counted in the statement up to its end
+
+-- a definition, counted
+abbrev pub CountedDef : Type 0
+CountedDef = AstDef × Count
+
+-- definitions, counted
+abbrev pub CountedDefs : Type 0
+CountedDefs = List AstDef × Count
+
+-- def = val_col "=" expr
+unfoldable pub def : Count → ℕ → Count → Reader CountedDef
+def limit levels taken = do
+  c ← val_col
+  at ← sign Is
+  e ← expr limit levels taken
+  give (record { col = c; expr = e.0 }, e.1)
+
+-- [ "," def ]
+unfoldable pub comma_def : Count → ℕ → Count → Reader (Option CountedDef)
+comma_def limit levels taken = comma_then (def limit levels taken)
+
+-- one more behind the others
+abbrev pub def_behind : CountedDefs → Option CountedDef → Option CountedDefs
+def_behind xs None = None
+def_behind xs (Some x) = Some (xs.0 ++ x.0 ∷ [], x.1)
+
+-- [ "," def ] behind others
+abbrev pub more_def : Count → ℕ → CountedDefs → Reader (Option CountedDefs)
+more_def limit levels xs = do
+  x ← comma_def limit levels xs.1
+  give (def_behind xs x)
+
+-- { "," def } behind others
+unfoldable pub defs_from : Count → ℕ → CountedDefs → Reader CountedDefs
+defs_from limit levels xs = turns (more_def limit levels) xs
+
+-- defs = def { "," def }
+unfoldable pub defs : Count → ℕ → Count → Reader CountedDefs
+defs limit levels taken = do
+  x ← def limit levels taken
+  defs_from limit levels (x.0 ∷ [], x.1)
+
+-- key_def = key_col "=" expr
+unfoldable pub key_def : Count → ℕ → Count → Reader (AstKeyDef × Count)
+key_def limit levels taken = do
+  c ← key_col
+  at ← sign Is
+  e ← expr limit levels taken
+  give (record { col = c; expr = e.0 }, e.1)
+
 -- ---- table = "join" operand operand | "union" operand operand | "agg" operand "by" [ names ]
+-- ----       | "map" operand "to" defs | "filter" operand "where" expr | "promote" operand "to" key_def
 -- ----       | "rename" operand pair { "," pair } | operand
 
 -- an operator word behind so many others of its statement
@@ -261,6 +316,39 @@ agg_rest at a = do
 abbrev pub agg_with : Count → (Count → Reader Counted) → Count → Reader Counted
 agg_with limit operand taken = operator_word limit taken >>= one_by agg_rest operand taken
 
+-- "to" defs, behind the operand of a map
+abbrev pub map_rest : Count → ℕ → ℕ → Counted → Reader Counted
+map_rest limit levels at a = do
+  to ← keyword key.To
+  ds ← defs limit levels a.1
+  give (node at (op.Map a.0 ds.0), ds.1)
+
+-- "map" operand "to" defs, likewise
+abbrev pub map_with : Count → ℕ → (Count → Reader Counted) → Count → Reader Counted
+map_with limit levels operand taken = operator_word limit taken >>= one_by (map_rest limit levels) operand taken
+
+-- "where" expr, behind the operand of a filter
+abbrev pub filter_rest : Count → ℕ → ℕ → Counted → Reader Counted
+filter_rest limit levels at a = do
+  wh ← keyword key.Where
+  e ← expr limit levels a.1
+  give (node at (op.Filter a.0 e.0), e.1)
+
+-- "filter" operand "where" expr, likewise
+abbrev pub filter_with : Count → ℕ → (Count → Reader Counted) → Count → Reader Counted
+filter_with limit levels operand taken = operator_word limit taken >>= one_by (filter_rest limit levels) operand taken
+
+-- "to" key_def, behind the operand of a promote
+abbrev pub promote_rest : Count → ℕ → ℕ → Counted → Reader Counted
+promote_rest limit levels at a = do
+  to ← keyword key.To
+  c ← key_def limit levels a.1
+  give (node at (op.Promote a.0 c.0), c.1)
+
+-- "promote" operand "to" key_def, likewise
+abbrev pub promote_with : Count → ℕ → (Count → Reader Counted) → Count → Reader Counted
+promote_with limit levels operand taken = operator_word limit taken >>= one_by (promote_rest limit levels) operand taken
+
 -- pair { "," pair }, behind the operand of a rename
 abbrev pub rename_rest : ℕ → Counted → Reader Counted
 rename_rest at a = do
@@ -272,34 +360,37 @@ abbrev pub rename_with : Count → (Count → Reader Counted) → Count → Read
 rename_with limit operand taken = operator_word limit taken >>= one_by rename_rest operand taken
 
 -- table, by the word that is next
-abbrev pub table_by : Count → (Count → Reader Counted) → Count → Option Lexeme → Reader Counted
-table_by limit operand taken (Some (lex.Key key.Join)) = join_with limit operand taken
-table_by limit operand taken (Some (lex.Key key.Union)) = union_with limit operand taken
-table_by limit operand taken (Some (lex.Key key.Agg)) = agg_with limit operand taken
-table_by limit operand taken (Some (lex.Key key.Rename)) = rename_with limit operand taken
-table_by limit operand taken w = operand taken
+abbrev pub table_by : Count → ℕ → (Count → Reader Counted) → Count → Option Lexeme → Reader Counted
+table_by limit levels operand taken (Some (lex.Key key.Join)) = join_with limit operand taken
+table_by limit levels operand taken (Some (lex.Key key.Union)) = union_with limit operand taken
+table_by limit levels operand taken (Some (lex.Key key.Agg)) = agg_with limit operand taken
+table_by limit levels operand taken (Some (lex.Key key.Map)) = map_with limit levels operand taken
+table_by limit levels operand taken (Some (lex.Key key.Filter)) = filter_with limit levels operand taken
+table_by limit levels operand taken (Some (lex.Key key.Promote)) = promote_with limit levels operand taken
+table_by limit levels operand taken (Some (lex.Key key.Rename)) = rename_with limit operand taken
+table_by limit levels operand taken w = operand taken
 
--- table, where so much was counted before
-abbrev pub table_with : Count → (Count → Reader Counted) → Count → Reader Counted
-table_with limit operand taken = peek >>= table_by limit operand taken
+-- table, where so much was counted before and so many levels may be opened in expressions
+abbrev pub table_with : Count → ℕ → (Count → Reader Counted) → Count → Reader Counted
+table_with limit levels operand taken = peek >>= table_by limit levels operand taken
 
 -- "(" table ")", with the same numbers as operand
 unfoldable pub inside : Count → ℕ → Count → Reader Counted
 inside limit zero taken = refuse TooMany
 inside limit (suc levels) taken = do
   at ← skip
-  x ← table_with limit (operand_with (inside limit levels)) taken
+  x ← table_with limit levels (operand_with (inside limit levels)) taken
   end ← sign Close
   give x
 
--- An operand. A statement may have so much of what is counted as limit says, and so many levels of ( may still be opened;
--- taken was counted before it.
+-- An operand. A statement may have so much of what is counted as limit says, and so many levels may still be opened; taken was
+-- counted before it.
 unfoldable pub operand : Count → ℕ → Count → Reader Counted
 operand limit levels taken = operand_with (inside limit levels) taken
 
 -- the same of a table
 unfoldable pub table : Count → ℕ → Count → Reader Counted
-table limit levels taken = table_with limit (operand limit levels) taken
+table limit levels taken = table_with limit levels (operand limit levels) taken
 
 -- ---- statement = NAME "=" table ";" | "print" NAME [ "by" [ names ] ] ";"
 

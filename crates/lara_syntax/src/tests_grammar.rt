@@ -7,6 +7,7 @@ use crate::ast::{
 };
 use crate::ast_part::AstPair;
 use crate::parsing::parse;
+use crate::tests_exprs::{behind_defs, behind_expr, behind_key_def};
 use crate::tests_shown::{behind, behind_number, behind_place, copy_of, is_end, is_refusal};
 use lara_data::ReadFault;
 use lara_key::KeyType;
@@ -164,10 +165,20 @@ fn val_type_name(ty: ValType) -> &'static [u8] {
     }
 }
 
+// What is left behind a key column: its name and its type.
+pub fn behind_key<'a>(want: &'a [u8], col: &AstKeyCol) -> Option<&'a [u8]> {
+    behind_word(behind_name(want, &col.name)?, key_type_name(col.ty))
+}
+
+// What is left behind a value column likewise.
+pub fn behind_val<'a>(want: &'a [u8], col: &AstValCol) -> Option<&'a [u8]> {
+    behind_word(behind_name(want, &col.name)?, val_type_name(col.ty))
+}
+
 fn behind_keys<'a>(want: &'a [u8], keys: &[AstKeyCol]) -> Option<&'a [u8]> {
     let mut rest = want;
     for col in keys {
-        rest = behind_word(behind_name(rest, &col.name)?, key_type_name(col.ty))?;
+        rest = behind_key(rest, col)?;
     }
     Some(rest)
 }
@@ -175,7 +186,7 @@ fn behind_keys<'a>(want: &'a [u8], keys: &[AstKeyCol]) -> Option<&'a [u8]> {
 fn behind_vals<'a>(want: &'a [u8], vals: &[AstValCol]) -> Option<&'a [u8]> {
     let mut rest = want;
     for col in vals {
-        rest = behind_word(behind_name(rest, &col.name)?, val_type_name(col.ty))?;
+        rest = behind_val(rest, col)?;
     }
     Some(rest)
 }
@@ -210,6 +221,16 @@ pub fn behind_node<'a>(want: &'a [u8], node: &AstNode) -> Option<&'a [u8]> {
         AstOp::Agg(a, names) => {
             let rest = behind_node(behind(rest, b"agg ")?, a.get())?;
             behind_names(behind(rest, b"by ")?, names.as_slice())
+        }
+        AstOp::Map(a, defs) => {
+            let rest = behind_node(behind(rest, b"map ")?, a.get())?;
+            behind_defs(rest, defs.list().as_slice())
+        }
+        AstOp::Filter(a, test) => {
+            behind_expr(behind_node(behind(rest, b"filter ")?, a.get())?, test)
+        }
+        AstOp::Promote(a, def) => {
+            behind_key_def(behind_node(behind(rest, b"promote ")?, a.get())?, def)
         }
         AstOp::Rename(a, pairs) => {
             let rest = behind_node(behind(rest, b"rename ")?, a.get())?;
@@ -263,7 +284,7 @@ fn is_copied_as(alloc: Global, ast: &Ast, want: &[u8]) -> Result<bool, AllocErro
 }
 
 // Whether the text shows the tree of the script, or its refusal.
-fn is_parsed_as(alloc: Global, script: &[u8], want: &[u8]) -> Result<bool, AllocError>
+pub fn is_parsed_as(alloc: Global, script: &[u8], want: &[u8]) -> Result<bool, AllocError>
     requires { length script.now ≤ 1048576 }
 {
     match parse(alloc, script) {
@@ -302,7 +323,7 @@ fn repeated(
 }
 
 // Whether the text shows the tree or the refusal of as many times another between two.
-fn are_parsed_as(
+pub fn are_parsed_as(
     alloc: Global,
     before: &[u8],
     times: usize,
@@ -408,10 +429,11 @@ fn the_65th_level_is_refused(rt: HostRuntime) -> Result<(), AllocError> {
 #[test]
 fn the_65th_operator_is_refused(rt: HostRuntime) -> Result<(), AllocError> {
     // Behind 63 operator words and as many levels, which take 506 bytes.
-    let cases: [(&[u8], &str); 4] = [
+    let cases: [(&[u8], &str); 5] = [
         (b"agg A by ,", "515 Unexpected"),
         (b"union A (join", "515 TooMany"),
         (b"rename (rename", "514 TooMany"),
+        (b"map (filter", "511 TooMany"),
         (b"union A join", "514 Unexpected"),
     ];
     for (behind, want) in cases {

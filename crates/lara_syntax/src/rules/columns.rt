@@ -70,9 +70,9 @@ fn val_type(items: &[Item]) -> Result<(ValType, &[Item]), Stop>
     }
 }
 
-// key_col = NAME ":" keytype
+/// key_col = NAME ":" keytype
 #[tactic(auto, unfolding(crate::specs::Reading::key_col))]
-fn key_col(alloc: Global, items: &[Item]) -> Result<(AstKeyCol, &[Item]), Fault>
+pub fn key_col(alloc: Global, items: &[Item]) -> Result<(AstKeyCol, &[Item]), Fault>
     ensures { Gives (λ x. (x.0, x.1.now)) result (key_col items.now) }
 {
     let (name, rest) = name(alloc, items)?;
@@ -138,9 +138,9 @@ fn some_key_cols(alloc: Global, items: &[Item]) -> Result<(List<AstKeyCol>, &[It
     }
 }
 
-// val_col = NAME ":" valtype
+/// val_col = NAME ":" valtype
 #[tactic(auto, unfolding(crate::specs::Reading::val_col))]
-fn val_col(alloc: Global, items: &[Item]) -> Result<(AstValCol, &[Item]), Fault>
+pub fn val_col(alloc: Global, items: &[Item]) -> Result<(AstValCol, &[Item]), Fault>
     ensures { Gives (λ x. (x.0, x.1.now)) result (val_col items.now) }
 {
     let (name, rest) = name(alloc, items)?;
