@@ -1,20 +1,18 @@
 -- What is in the grammar is read.
-use Rattle.std.proofs.Common.{◌≡◌, ℕ, suc, ◌<◌, ◌≤◌, ◌+◌, List, [], ◌∷◌, ◌++◌, length, Option, Some, None, is_some, refl, sym, ap, subst, ◌∙◌, arith, append_assoc, Bool, true, false, cond, nat_lt}
-use Rattle.std.proofs.lemmas.List.{append-nil, length-append}
-use Rattle.std.proofs.lemmas.Bool.{lt-ltb}
-use Rattle.lara_data.specs.declared.refusal.Kind.TheVariants.{Unexpected, TooMany}
+use Rattle.std.proofs.Common.{◌≡◌, ℕ, List, [], ◌∷◌, ◌++◌, Option, Some, None, is_some, refl, sym, ap, subst, ◌∙◌, append_assoc, Bool, true, false, cond}
+use Rattle.std.proofs.lemmas.List.{append-nil}
+use Rattle.lara_data.specs.declared.refusal.Kind.TheVariants.{Unexpected}
 use Rattle.lara_key.specs.declared.key.KeyType.{KeyType}
 use Rattle.lara_key.specs.declared.key.KeyType.TheVariants as key_type_of
 use Rattle.lara_semiring.specs.declared.value.ValType.{ValType}
 use Rattle.lara_semiring.specs.declared.value.ValType.TheVariants as val_type_of
 use Rattle.lara_syntax.specs.declared.item.Lexeme.{Lexeme}
 use Rattle.lara_syntax.specs.declared.item.Lexeme.TheVariants as lex
+use Rattle.lara_syntax.specs.declared.item.Keyword.{Keyword}
 use Rattle.lara_syntax.specs.declared.item.Keyword.TheVariants as key
 use Rattle.lara_syntax.specs.declared.item.Sign.{Sign}
-use Rattle.lara_syntax.specs.declared.item.Sign.TheVariants.{Is, Semi, Comma, Colon, OpenBracket, CloseBracket, OpenBrace, CloseBrace, Open, Close}
-use Rattle.lara_syntax.specs.declared.ast.Ast.{Ast}
+use Rattle.lara_syntax.specs.declared.item.Sign.TheVariants.{Semi, Comma, Colon, OpenBracket, CloseBracket, OpenBrace, CloseBrace, Close}
 use Rattle.lara_syntax.specs.declared.ast.AstName.{AstName}
-use Rattle.lara_syntax.specs.declared.ast.AstBy.{AstBy}
 use Rattle.lara_syntax.specs.declared.ast.AstKeyCol.{AstKeyCol}
 use Rattle.lara_syntax.specs.declared.ast.AstValCol.{AstValCol}
 use Rattle.lara_syntax.specs.AstTypes.{AstColumns}
@@ -23,20 +21,16 @@ use Rattle.lara_syntax.specs.declared.ast.AstValue.{AstValue}
 use Rattle.lara_syntax.specs.declared.ast.AstValue.TheVariants as val
 use Rattle.lara_syntax.specs.declared.ast.AstEntry.{AstEntry}
 use Rattle.lara_syntax.specs.declared.ast.AstNode.{AstNode}
-use Rattle.lara_syntax.specs.declared.ast.AstOp.{AstOp}
-use Rattle.lara_syntax.specs.declared.ast.AstOp.TheVariants as op
-use Rattle.lara_syntax.specs.declared.ast.AstStatement.{AstStatement}
-use Rattle.lara_syntax.specs.Limits.{Limits, none_counted, one_operator, together}
-use Rattle.lara_syntax.specs.declared.count.Count.{Count}
+use Rattle.lara_syntax.specs.declared.ast_part.AstPair.{AstPair}
 use Rattle.lara_syntax.specs.Steps.{Items, Read, Reader, ◌>>=◌, give, refuse, peek, skip, items_from, head_word}
 use Rattle.lara_syntax.specs.Reading as r
-use Rattle.lara_syntax.proofs.WordTextLaws.{same_sign-refl}
-use Rattle.lara_syntax.specs.Places.{node}
-use Rattle.lara_syntax.specs.Reading.{sign, sign_by, next_as, taken_as, comma_by, Counted}
-use Rattle.lara_syntax.specs.Grammar.{Word, word, Mark, Named, literal_word, Lit, key_type_word, KeyTyped, val_type_word, ValTyped, Many, none, more, CommaThen, comma_then, Commas, commas, Maybe, nothing, just, KeyCol, key_col, ValCol, val_col, TypeOf, columns, Entry, entry, SemiEntry, semi_entry, SomeSemi, no_semi, semi, Entries, entries, Leaf, named, load, literal, Operand, leaf, inside, Table, join, union, agg, operand, SomeOrder, no_order, order, Statement, assign, print, Script}
-use Rattle.lara_syntax.proofs.Levels.{inside_rest}
+use Rattle.lara_syntax.specs.WordReading as words
+use Rattle.lara_syntax.proofs.WordTextLaws.{same_keyword-refl, same_sign-refl}
+use Rattle.lara_syntax.specs.WordReading.{sign, sign_by, next_as, taken_as, comma_by}
+use Rattle.lara_syntax.specs.Grammar.{KeyCol, key_col, ValCol, val_col, TypeOf, columns, Entry, entry, SemiEntry, semi_entry, SomeSemi, no_semi, semi, Entries, entries, Pair, pair, Leaf, named, load, literal}
+use Rattle.lara_syntax.specs.WordGrammar.{Word, word, Mark, Key, Named, literal_word, Lit, key_type_word, KeyTyped, val_type_word, ValTyped, Many, none, more, CommaThen, comma_then, Commas, commas, Maybe, nothing, just}
 use Rattle.lara_syntax.proofs.Turns.{TakesOne, read_of, items-some, items-none}
-use Rattle.lara_syntax.proofs.RuleReaders.{comma_name-one, comma_key_col-one, comma_val_col-one, comma_lit-one, semi_entry-one, has_room, next_behind, tree_given, statements-some, statements-none}
+use Rattle.lara_syntax.proofs.RuleReaders.{comma_name-one, comma_key_col-one, comma_val_col-one, comma_lit-one, semi_entry-one, comma_pair-one}
 
 -- ---- one word
 
@@ -58,15 +52,19 @@ pub sign_reads : (m : Sign) (at : ℕ) (ts us : Items) → Mark m at ts us → s
 unfolding sign
 sign_reads m at ts us h = chosen (sign_by m) ts (Some (lex.Sign m)) (read_of at us) (head_is _ at ts us h) (ap (λ (b : Bool). cond b skip (refuse Unexpected) ts) (same_sign-refl m) ∙ skip_is _ at ts us h)
 
-pub name_reads : (x : AstName) (ts us : Items) → Named x ts us → r.name ts ≡ read_of x us
-unfolding r.name
-name_reads x ts us h = chosen r.name_by ts (Some (lex.Name x.name)) (read_of x us) (head_is _ x.at ts us h) (rw (skip_is _ x.at ts us h) refl)
+pub keyword_reads : (k : Keyword) (at : ℕ) (ts us : Items) → Key k at ts us → words.keyword k ts ≡ read_of at us
+unfolding words.keyword
+keyword_reads k at ts us h = chosen (words.keyword_by k) ts (Some (lex.Key k)) (read_of at us) (head_is _ at ts us h) (ap (λ (b : Bool). cond b skip (refuse Unexpected) ts) (same_keyword-refl k) ∙ skip_is _ at ts us h)
+
+pub name_reads : (x : AstName) (ts us : Items) → Named x ts us → words.name ts ≡ read_of x us
+unfolding words.name
+name_reads x ts us h = chosen words.name_by ts (Some (lex.Name x.name)) (read_of x us) (head_is _ x.at ts us h) (rw (skip_is _ x.at ts us h) refl)
 
 -- a word that stands for something
 as_reads : {A B : Type 0} (make : ℕ → A → B) (f : Lexeme → Option A) (w : Lexeme) (x : A) (at : ℕ) (ts us : Items) → f w ≡ Some x → Word w at ts us → (peek >>= λ o. taken_as make (next_as f o)) ts ≡ read_of (make at x) us
 as_reads {A = A} make f w x at ts us e h = chosen (λ o. taken_as make (next_as f o)) ts (Some w) (read_of (make at x) us) (head_is w at ts us h) (ap (λ (o : Option A). taken_as make o ts) e ∙ rw (skip_is w at ts us h) refl)
 
-literal_is : (v : AstValue) → r.literal_of (literal_word v) ≡ Some v
+literal_is : (v : AstValue) → words.literal_of (literal_word v) ≡ Some v
 literal_is (val.Number n) = refl
 literal_is (val.Text content) = refl
 literal_is (val.Flag true) = refl
@@ -74,20 +72,20 @@ literal_is (val.Flag false) = refl
 literal_is val.Inf = refl
 literal_is val.None = refl
 
-lit_reads : (x : AstLit) (ts us : Items) → Lit x ts us → r.lit ts ≡ read_of x us
-unfolding r.lit
-lit_reads x ts us h = as_reads r.lit_at r.literal_of (literal_word x.value) x.value x.at ts us (literal_is x.value) h
+pub lit_reads : (x : AstLit) (ts us : Items) → Lit x ts us → words.lit ts ≡ read_of x us
+unfolding words.lit
+lit_reads x ts us h = as_reads words.lit_at words.literal_of (literal_word x.value) x.value x.at ts us (literal_is x.value) h
 
-key_type_is : (t : KeyType) → r.word_key_type (lex.Key (key_type_word t)) ≡ Some t
+key_type_is : (t : KeyType) → words.word_key_type (lex.Key (key_type_word t)) ≡ Some t
 key_type_is key_type_of.Nat = refl
 key_type_is key_type_of.Text = refl
 key_type_is key_type_of.Flag = refl
 
-key_type_reads : (x : KeyType) (ts us : Items) → KeyTyped x ts us → r.key_type ts ≡ read_of x us
-unfolding r.key_type
-key_type_reads x ts us h = as_reads r.without_place r.word_key_type (lex.Key (key_type_word x)) x h.0 ts us (key_type_is x) h.1
+key_type_reads : (x : KeyType) (ts us : Items) → KeyTyped x ts us → words.key_type ts ≡ read_of x us
+unfolding words.key_type
+key_type_reads x ts us h = as_reads words.without_place words.word_key_type (lex.Key (key_type_word x)) x h.0 ts us (key_type_is x) h.1
 
-val_type_is : (t : ValType) → r.word_val_type (lex.Key (val_type_word t)) ≡ Some t
+val_type_is : (t : ValType) → words.word_val_type (lex.Key (val_type_word t)) ≡ Some t
 val_type_is val_type_of.Count = refl
 val_type_is val_type_of.MinPlus = refl
 val_type_is val_type_of.MaxMin = refl
@@ -95,9 +93,9 @@ val_type_is val_type_of.Flag = refl
 val_type_is val_type_of.Last = refl
 val_type_is val_type_of.Path = refl
 
-val_type_reads : (x : ValType) (ts us : Items) → ValTyped x ts us → r.val_type ts ≡ read_of x us
-unfolding r.val_type
-val_type_reads x ts us h = as_reads r.without_place r.word_val_type (lex.Key (val_type_word x)) x h.0 ts us (val_type_is x) h.1
+val_type_reads : (x : ValType) (ts us : Items) → ValTyped x ts us → words.val_type ts ≡ read_of x us
+unfolding words.val_type
+val_type_reads x ts us h = as_reads words.without_place words.word_val_type (lex.Key (val_type_word x)) x h.0 ts us (val_type_is x) h.1
 
 -- ---- lists
 
@@ -131,19 +129,19 @@ no_comma_by : {A : Type 0} (p : Reader A) (w : Option Lexeme) (ts : Items) → N
 no_comma_by p (Some (lex.Sign Comma)) ts a = absurd a
 no_comma_by p w ts a = refl
 
-pub no_comma : {A : Type 0} (p : Reader A) (ts : Items) → NoComma (head_word ts) → r.comma_then p ts ≡ read_of None ts
+pub no_comma : {A : Type 0} (p : Reader A) (ts : Items) → NoComma (head_word ts) → words.comma_then p ts ≡ read_of None ts
 no_comma p ts a = no_comma_by p (head_word ts) ts a
 
-comma_reads : {A : Type 0} (X : A → Items → Items → Type 0) (p : Reader A) → Reads X p → ItemReads (CommaThen X) (r.comma_then p) anything
+comma_reads : {A : Type 0} (X : A → Items → Items → Type 0) (p : Reader A) → Reads X p → ItemReads (CommaThen X) (words.comma_then p) anything
 comma_reads X p reads x ts us (comma_then at y a b c h k) after = chosen (comma_by p) a (Some (lex.Sign Comma)) (read_of (Some y) c) (head_is _ at a b h) (rw (skip_is _ at a b h, reads y b c k) refl)
 
 -- a list of what ends by itself, with what was read before
-list_reads : {A : Type 0} (X : A → Items → Items → Type 0) (p : Reader A) → Reads X p → TakesOne (r.comma_then p) → (x : A) (xs : List A) (ts rest : Items) → Many (CommaThen X) xs ts rest → NoComma (head_word rest) → items_from (r.comma_then p) (x ∷ []) ts ≡ read_of (x ∷ xs) rest
+list_reads : {A : Type 0} (X : A → Items → Items → Type 0) (p : Reader A) → Reads X p → TakesOne (words.comma_then p) → (x : A) (xs : List A) (ts rest : Items) → Many (CommaThen X) xs ts rest → NoComma (head_word rest) → items_from (words.comma_then p) (x ∷ []) ts ≡ read_of (x ∷ xs) rest
 list_reads X p reads one x xs ts rest h after =
-    many_reads (CommaThen X) (r.comma_then p) anything one (comma_reads X p reads) (λ y us vs k. tt) xs ts rest h tt (x ∷ []) ∙ items-none (r.comma_then p) one (x ∷ xs) rest None rest (no_comma p rest after) refl
+    many_reads (CommaThen X) (words.comma_then p) anything one (comma_reads X p reads) (λ y us vs k. tt) xs ts rest h tt (x ∷ []) ∙ items-none (words.comma_then p) one (x ∷ xs) rest None rest (no_comma p rest after) refl
 
-commas_reads : {A : Type 0} (X : A → Items → Items → Type 0) (p : Reader A) → Reads X p → TakesOne (r.comma_then p) → (xs : List A) (ts rest : Items) → Commas X xs ts rest → NoComma (head_word rest) → (p >>= λ x. items_from (r.comma_then p) (x ∷ [])) ts ≡ read_of xs rest
-commas_reads X p reads one xs ts rest (commas x ys a b c h k) after = step p (λ x. items_from (r.comma_then p) (x ∷ [])) a x b (read_of (x ∷ ys) c) (reads x a b h) (list_reads X p reads one x ys b c k after)
+commas_reads : {A : Type 0} (X : A → Items → Items → Type 0) (p : Reader A) → Reads X p → TakesOne (words.comma_then p) → (xs : List A) (ts rest : Items) → Commas X xs ts rest → NoComma (head_word rest) → (p >>= λ x. items_from (words.comma_then p) (x ∷ [])) ts ≡ read_of xs rest
+commas_reads X p reads one xs ts rest (commas x ys a b c h k) after = step p (λ x. items_from (words.comma_then p) (x ∷ [])) a x b (read_of (x ∷ ys) c) (reads x a b h) (list_reads X p reads one x ys b c k after)
 
 -- ---- names
 
@@ -164,16 +162,16 @@ no_names_by w ts a = refl
 names_head : (ns : List AstName) (ts rest : Items) → Commas Named ns ts rest → (n : List ℕ) × (head_word ts ≡ Some (lex.Name n))
 names_head ns ts rest (commas x ys a b c h k) = (x.name, head_is _ x.at a b h)
 
-some_names_reads : (ns : List AstName) (ts rest : Items) → Maybe (Commas Named) ns ts rest → AfterNames (head_word rest) → r.some_names ts ≡ read_of ns rest
+pub some_names_reads : (ns : List AstName) (ts rest : Items) → Maybe (Commas Named) ns ts rest → AfterNames (head_word rest) → r.some_names ts ≡ read_of ns rest
 unfolding r.some_names r.comma_name
 some_names_reads ns ts rest (nothing q) after = no_names_by (head_word q) q after
 some_names_reads ns ts rest (just ms a c h) after =
     let n = names_head ms a c h in
-    chosen r.some_names_by a (Some (lex.Name n.0)) (read_of ms c) n.1 (commas_reads Named r.name name_reads comma_name-one ms a c h (names_comma (head_word c) after))
+    chosen r.some_names_by a (Some (lex.Name n.0)) (read_of ms c) n.1 (commas_reads Named words.name name_reads comma_name-one ms a c h (names_comma (head_word c) after))
 
 -- ---- columns
 
-key_col_reads : (x : AstKeyCol) (ts us : Items) → KeyCol x ts us → r.key_col ts ≡ read_of x us
+pub key_col_reads : (x : AstKeyCol) (ts us : Items) → KeyCol x ts us → r.key_col ts ≡ read_of x us
 unfolding r.key_col
 key_col_reads x ts us (key_col c n t a b d e h k l) = rw (name_reads n a b h, sign_reads Colon c b d k, key_type_reads t d e l) refl
 
@@ -194,7 +192,7 @@ some_key_cols_reads xs ts rest (just ys a c h) after =
     let n = key_cols_head ys a c h in
     chosen r.some_key_cols_by a (Some (lex.Name n.0)) (read_of ys c) n.1 (commas_reads KeyCol r.key_col key_col_reads comma_key_col-one ys a c h (next_no_comma (head_word c) Colon after tt))
 
-val_col_reads : (x : AstValCol) (ts us : Items) → ValCol x ts us → r.val_col ts ≡ read_of x us
+pub val_col_reads : (x : AstValCol) (ts us : Items) → ValCol x ts us → r.val_col ts ≡ read_of x us
 unfolding r.val_col
 val_col_reads x ts us (val_col c n t a b d e h k l) = rw (name_reads n a b h, sign_reads Colon c b d k, val_type_reads t d e l) refl
 
@@ -211,12 +209,12 @@ table_type_reads x ts us (columns a b c ks vs t1 t2 t3 t4 t5 t6 h1 h2 h3 h4 h5) 
 
 lits_reads : (xs : List AstLit) (ts rest : Items) → Commas Lit xs ts rest → NoComma (head_word rest) → r.lits ts ≡ read_of xs rest
 unfolding r.lits r.comma_lit
-lits_reads xs ts rest h after = commas_reads Lit r.lit lit_reads comma_lit-one xs ts rest h after
+lits_reads xs ts rest h after = commas_reads Lit words.lit lit_reads comma_lit-one xs ts rest h after
 
 lits_head : (xs : List AstLit) (ts rest : Items) → Commas Lit xs ts rest → (v : AstValue) × (head_word ts ≡ Some (literal_word v))
 lits_head xs ts rest (commas x ys a b c h k) = (x.value, head_is _ x.at a b h)
 
-is_literal_word : (v : AstValue) → r.is_literal (Some (literal_word v)) ≡ true
+is_literal_word : (v : AstValue) → words.is_literal (Some (literal_word v)) ≡ true
 is_literal_word v = ap (λ (o : Option AstValue). is_some o) (literal_is v)
 
 some_lits_reads : (xs : List AstLit) (ts rest : Items) → Maybe (Commas Lit) xs ts rest → Next Colon rest → r.some_lits ts ≡ read_of xs rest
@@ -279,131 +277,36 @@ unfolding r.some_entries r.entry_here
 some_entries_reads es ts rest (nothing q) after = step r.entry_here r.entries_from q None q (read_of [] q) (chosen r.entry_here_by q (Some (lex.Sign CloseBrace)) (read_of None q) after refl) refl
 some_entries_reads es ts rest (just fs a c h) after = entries_reads fs a c h after
 
+-- ---- pairs
+
+pair_reads : Reads Pair r.pair
+unfolding r.pair
+pair_reads x ts us (pair at n m a b d e h k l) = rw (name_reads n a b h, keyword_reads key.To at b d k, name_reads m d e l) refl
+
+pub pairs_reads : (xs : List AstPair) (ts rest : Items) → Commas Pair xs ts rest → NoComma (head_word rest) → r.pairs ts ≡ read_of xs rest
+unfolding r.pairs r.comma_pair
+pairs_reads xs ts rest h after = commas_reads Pair r.pair pair_reads comma_pair-one xs ts rest h after
+
 -- ---- tables
 
-leaf_reads : (x : AstNode) (ts us : Items) → Leaf x ts us → r.leaf ts ≡ read_of x us
+-- what may stand behind a table
+abbrev pub AfterTable : Option Lexeme → Type 0
+AfterTable (Some (lex.Sign Semi)) = Unit {0}
+AfterTable (Some (lex.Sign Close)) = Unit {0}
+AfterTable w = ⊥
+
+pub table_names : (w : Option Lexeme) → AfterTable w → AfterNames w
+table_names (Some (lex.Sign Semi)) a = tt
+table_names (Some (lex.Sign Close)) a = tt
+table_names w a = absurd a
+
+pub table_comma : (w : Option Lexeme) → AfterTable w → NoComma w
+table_comma w a = names_comma w (table_names w a)
+
+pub leaf_reads : (x : AstNode) (ts us : Items) → Leaf x ts us → r.leaf ts ≡ read_of x us
 unfolding r.leaf
 leaf_reads x ts us (named n a b h) = chosen r.leaf_by a (Some (lex.Name n.name)) (read_of _ b) (head_is _ n.at a b h) (rw (name_reads n a b h) refl)
 leaf_reads x ts us (load at n a b c h k) = chosen r.leaf_by a (Some (lex.Key key.Load)) (read_of _ c) (head_is _ at a b h) (rw (skip_is _ at a b h, name_reads n b c k) refl)
 leaf_reads x ts us (literal at a b ty es t1 t2 t3 t4 t5 t6 h1 h2 h3 h4 h5) =
     chosen r.leaf_by t1 (Some (lex.Key key.Table)) (read_of _ t6) (head_is _ at t1 t2 h1)
     (rw (skip_is _ at t1 t2 h1, table_type_reads ty t2 t3 h2, sign_reads OpenBrace a t3 t4 h3, some_entries_reads es t4 t5 h4 (head_is _ b t5 t6 h5), sign_reads CloseBrace b t5 t6 h5) refl)
-
--- what a choice does where a leaf is next
-leaf_chosen : {A : Type 0} (by : Option Lexeme → Reader A) (x : AstNode) (ts us : Items) → Leaf x ts us → (y : Read A)
-    → ((n : List ℕ) → by (Some (lex.Name n)) ts ≡ y) → by (Some (lex.Key key.Load)) ts ≡ y → by (Some (lex.Key key.Table)) ts ≡ y → (peek >>= by) ts ≡ y
-leaf_chosen by x ts us (named n a b h) y f g k = chosen by a (Some (lex.Name n.name)) y (head_is _ n.at a b h) (f n.name)
-leaf_chosen by x ts us (load at n a b c h l) y f g k = chosen by a (Some (lex.Key key.Load)) y (head_is _ at a b h) g
-leaf_chosen by x ts us (literal at a b ty es t1 t2 t3 t4 t5 t6 h1 h2 h3 h4 h5) y f g k = chosen by t1 (Some (lex.Key key.Table)) y (head_is _ at t1 t2 h1) k
-
--- what a choice does where an operand is next
-operand_chosen : {A : Type 0} (by : Option Lexeme → Reader A) (d : ℕ) (n : Count) (x : AstNode) (ts us : Items) → Operand d n x ts us → (y : Read A)
-    → ((n : List ℕ) → by (Some (lex.Name n)) ts ≡ y) → by (Some (lex.Key key.Load)) ts ≡ y → by (Some (lex.Key key.Table)) ts ≡ y → by (Some (lex.Sign Open)) ts ≡ y → (peek >>= by) ts ≡ y
-operand_chosen by d n x ts us (leaf e y a b h) z f g k l = leaf_chosen by y a b h z f g k
-operand_chosen by d n x ts us (inside e m a b y t1 t2 t3 t4 h1 h2 h3) z f g k l = chosen by t1 (Some (lex.Sign Open)) z (head_is _ a t1 t2 h1) l
-
-by_word_reads : (at : ℕ) (ts us : Items) → Word (lex.Key key.By) at ts us → r.by_word ts ≡ read_of at us
-unfolding r.by_word
-by_word_reads at ts us h = chosen r.by_word_by ts (Some (lex.Key key.By)) (read_of at us) (head_is _ at ts us h) (skip_is _ at ts us h)
-
-room_for : (m n : ℕ) → m < n → nat_lt m n ≡ true
-room_for m n h = lt-ltb m n h
-
-operator_reads : (limit taken : Count) (w : Lexeme) (at : ℕ) (ts us : Items) → Word w at ts us → taken.operators < limit.operators → r.operator_word limit taken ts ≡ read_of at us
-unfolding r.operator_word
-operator_reads limit taken w at ts us h lt = ap (λ (b : Bool). cond b skip (refuse TooMany) ts) (room_for taken.operators limit.operators lt) ∙ skip_is w at ts us h
-
-operator_goes : {B : Type 0} (limit taken : Count) (w : Lexeme) (at : ℕ) (ts us : Items) → Word w at ts us → taken.operators < limit.operators → (f : ℕ → Reader B) (y : Read B) → f at us ≡ y → (r.operator_word limit taken >>= f) ts ≡ y
-operator_goes limit taken w at ts us h lt f y g = step (r.operator_word limit taken) f ts at us y (operator_reads limit taken w at ts us h lt) g
-
-two_goes : (what : AstNode → AstNode → AstOp) (o : Count → Reader Counted) (k i j : Count) (at : ℕ) (a b : AstNode) (ts us vs : Items) → o (one_operator k) ts ≡ read_of (a, i) us → o i us ≡ read_of (b, j) vs → r.two_by what o k at ts ≡ read_of (node at (what a b), j) vs
-two_goes what o k i j at a b ts us vs h g =
-    step (o (one_operator k)) (λ x. o x.1 >>= λ y. give (node at (what x.0 y.0), y.1)) ts (a, i) us (read_of (node at (what a b), j) vs) h
-    (step (o i) (λ y. give (node at (what a y.0), y.1)) us (b, j) vs (read_of (node at (what a b), j) vs) g refl)
-
-agg_goes : (o : Count → Reader Counted) (k j : Count) (at by : ℕ) (a : AstNode) (ns : List AstName) (ts us vs rest : Items) → o (one_operator k) ts ≡ read_of (a, j) us → r.by_word us ≡ read_of by vs → r.some_names vs ≡ read_of ns rest → r.agg_by o k at ts ≡ read_of (node at (op.Agg a ns), j) rest
-agg_goes o k j at by a ns ts us vs rest h g l =
-    step (o (one_operator k)) (λ x. r.by_word >>= λ b. r.some_names >>= λ ms. give (node at (op.Agg x.0 ms), x.1)) ts (a, j) us (read_of (node at (op.Agg a ns), j) rest) h
-    (step r.by_word (λ b. r.some_names >>= λ ms. give (node at (op.Agg a ms), j)) us by vs (read_of (node at (op.Agg a ns), j) rest) g
-    (step r.some_names (λ ms. give (node at (op.Agg a ms), j)) vs ns rest (read_of (node at (op.Agg a ns), j) rest) l refl))
-
-same_count : (a b : Count) → a.operators ≡ b.operators → a ≡ b
-same_count a b e = ap count_of e
-  where
-    count_of : ℕ → Count
-    count_of n = record { operators = n }
-
--- where k was counted before, j is with what the table has
-mutual
-  unfolding r.operand r.table r.inside
-
-  operand_reads : (limit : Count) (d : ℕ) (n : Count) (x : AstNode) (ts us : Items) → Operand d n x ts us → (k j : Count) → j.operators ≡ k.operators + n.operators → j.operators ≤ limit.operators → r.operand limit d k ts ≡ read_of (x, j) us
-  operand_reads limit d n x ts us (leaf e y a b h) k j total le =
-      let same : k ≡ j = same_count k j (omega (arith, total)) in
-      let read : (r.leaf >>= λ z. give (z, k)) a ≡ read_of (y, j) b = step r.leaf (λ z. give (z, k)) a y b (read_of (y, j) b) (leaf_reads y a b h) (ap (λ (q : Count). read_of (y, q) b) same) in
-      leaf_chosen (r.operand_by (r.inside limit e) k) y a b h (read_of (y, j) b) (λ m. read) read read
-  operand_reads limit d n x ts us (inside e m a b y t1 t2 t3 t4 h1 h2 h3) k j total le =
-      chosen (r.operand_by (r.inside limit (suc e)) k) t1 (Some (lex.Sign Open)) (read_of (y, j) t4) (head_is _ a t1 t2 h1)
-      (step skip (inside_rest limit e k) t1 a t2 (read_of (y, j) t4) (skip_is _ a t1 t2 h1)
-      (step (r.table limit e k) (λ z. sign Close >>= λ end. give z) t2 (y, j) t3 (read_of (y, j) t4) (table_reads limit e m y t2 t3 h2 k j total le (subst AfterNames (sym (head_is _ b t3 t4 h3)) tt))
-      (step (sign Close) (λ end. give (y, j)) t3 b t4 (read_of (y, j) t4) (sign_reads Close b t3 t4 h3) refl)))
-
-  table_reads : (limit : Count) (d : ℕ) (n : Count) (x : AstNode) (ts us : Items) → Table d n x ts us → (k j : Count) → j.operators ≡ k.operators + n.operators → j.operators ≤ limit.operators → AfterNames (head_word us) → r.table limit d k ts ≡ read_of (x, j) us
-  table_reads limit d n x ts us (join e l m at a b t1 t2 t3 t4 h1 h2 h3) k j total le after =
-      chosen (r.table_by limit (r.operand limit e) k) t1 (Some (lex.Key key.Join)) (read_of _ t4) (head_is _ at t1 t2 h1)
-      (operator_goes limit k _ at t1 t2 h1 (omega (arith, total, le)) (r.two_by op.Join (r.operand limit e) k) (read_of _ t4)
-      (two_goes op.Join (r.operand limit e) k (together (one_operator k) l) j at a b t2 t3 t4 (operand_reads limit e l a t2 t3 h2 (one_operator k) (together (one_operator k) l) refl (omega (arith, total, le))) (operand_reads limit e m b t3 t4 h3 (together (one_operator k) l) j (omega (arith, total)) le)))
-  table_reads limit d n x ts us (union e l m at a b t1 t2 t3 t4 h1 h2 h3) k j total le after =
-      chosen (r.table_by limit (r.operand limit e) k) t1 (Some (lex.Key key.Union)) (read_of _ t4) (head_is _ at t1 t2 h1)
-      (operator_goes limit k _ at t1 t2 h1 (omega (arith, total, le)) (r.two_by op.Union (r.operand limit e) k) (read_of _ t4)
-      (two_goes op.Union (r.operand limit e) k (together (one_operator k) l) j at a b t2 t3 t4 (operand_reads limit e l a t2 t3 h2 (one_operator k) (together (one_operator k) l) refl (omega (arith, total, le))) (operand_reads limit e m b t3 t4 h3 (together (one_operator k) l) j (omega (arith, total)) le)))
-  table_reads limit d n x ts us (agg e m at by a ns t1 t2 t3 t4 t5 h1 h2 h3 h4) k j total le after =
-      chosen (r.table_by limit (r.operand limit e) k) t1 (Some (lex.Key key.Agg)) (read_of _ t5) (head_is _ at t1 t2 h1)
-      (operator_goes limit k _ at t1 t2 h1 (omega (arith, total, le)) (r.agg_by (r.operand limit e) k) (read_of _ t5)
-      (agg_goes (r.operand limit e) k j at by a ns t2 t3 t4 t5 (operand_reads limit e m a t2 t3 h2 (one_operator k) j (omega (arith, total)) le) (by_word_reads by t3 t4 h3) (some_names_reads ns t4 t5 h4 after)))
-  table_reads limit d n x ts us (operand e m y a b h) k j total le after =
-      let read = operand_reads limit e m y a b h k j total le in
-      operand_chosen (r.table_by limit (r.operand limit e) k) e m y a b h (read_of (y, j) b) (λ q. read) read read read
-
--- ---- statements
-
-some_order_reads : (x : Option AstBy) (ts us : Items) → SomeOrder x ts us → Next Semi us → r.some_order ts ≡ read_of x us
-unfolding r.some_order
-some_order_reads x ts us (no_order q) after = chosen r.some_order_by q (Some (lex.Sign Semi)) (read_of None q) after refl
-some_order_reads x ts us (order at ns a b c h k) after =
-    chosen r.some_order_by a (Some (lex.Key key.By)) (read_of _ c) (head_is _ at a b h) (rw (skip_is _ at a b h, some_names_reads ns b c k (subst AfterNames (sym after) tt)) refl)
-
-pub statement_reads : (limits : Limits) (x : AstStatement) (ts us : Items) → Statement limits x ts us → r.statement limits ts ≡ read_of x us
-unfolding r.statement
-statement_reads limits x ts us (assign a b m n t t1 t2 t3 t4 t5 h1 h2 h3 le h4) =
-    chosen (r.statement_by limits) t1 (Some (lex.Name n.name)) (read_of _ t5) (head_is _ n.at t1 t2 h1)
-    (rw (name_reads n t1 t2 h1, sign_reads Is a t2 t3 h2, table_reads limits.counted limits.levels m t t3 t4 h3 none_counted m (omega arith) le (subst AfterNames (sym (head_is _ b t4 t5 h4)) tt), sign_reads Semi b t4 t5 h4) refl)
-statement_reads limits x ts us (print at b n by t1 t2 t3 t4 t5 h1 h2 h3 h4) =
-    chosen (r.statement_by limits) t1 (Some (lex.Key key.Print)) (read_of _ t5) (head_is _ at t1 t2 h1)
-    (rw (skip_is _ at t1 t2 h1, name_reads n t2 t3 h2, some_order_reads by t3 t4 h3 (head_is _ b t4 t5 h4), sign_reads Semi b t4 t5 h4) refl)
-
--- a statement begins with a word
-statement_head : (limits : Limits) (x : AstStatement) (ts us : Items) → Statement limits x ts us → (w : Lexeme) × (head_word ts ≡ Some w)
-statement_head limits x ts us (assign a b m n t t1 t2 t3 t4 t5 h1 h2 h3 le h4) = (lex.Name n.name, head_is _ n.at t1 t2 h1)
-statement_head limits x ts us (print at b n by t1 t2 t3 t4 t5 h1 h2 h3 h4) = (lex.Key key.Print, head_is _ at t1 t2 h1)
-
-pub next_statement_reads : (limits : Limits) (x : AstStatement) (ts us : Items) → Statement limits x ts us → (room : Bool) → room ≡ true → r.next_statement limits room ts ≡ read_of (Some x) us
-unfolding r.next_statement
-next_statement_reads limits x ts us h false e = absurd cc
-next_statement_reads limits x ts us h true e = let w = statement_head limits x ts us h in chosen (r.next_by limits true) ts (Some w.0) (read_of (Some x) us) w.1 (rw (statement_reads limits x ts us h) refl)
-
-end_here : (limits : Limits) (room : Bool) → r.next_statement limits room [] ≡ read_of None []
-unfolding r.next_statement
-end_here limits room = refl
-
-statements_go : (limits : Limits) (xs : List AstStatement) (ts rest : Items) → Many (Statement limits) xs ts rest → rest ≡ [] → (acc : List AstStatement) → length acc + length xs ≤ limits.statements → r.statements limits acc ts ≡ read_of (acc ++ xs) []
-statements_go limits xs ts rest (none q) e acc le =
-    statements-none limits acc q None [] (ap (next_behind limits acc) e ∙ end_here limits (has_room limits acc)) refl ∙ ap (λ q. read_of q []) (sym (append-nil acc))
-statements_go limits xs ts rest (more x ys a b c h hs) e acc le =
-    statements-some limits acc a x b (next_statement_reads limits x a b h (has_room limits acc) (room_for (length acc) limits.statements (omega (arith, le))))
-    ∙ statements_go limits ys b c hs e (acc ++ x ∷ []) (omega (arith, le, length-append acc (x ∷ [])))
-    ∙ ap (λ q. read_of q []) (append_assoc acc (x ∷ []) ys)
-
-pub script_reads : (limits : Limits) (tree : Ast) (ts : Items) → Script limits tree ts → r.script limits ts ≡ read_of tree []
-unfolding r.script
-script_reads limits tree ts h = step (r.statements limits []) tree_given ts tree.statements [] (read_of tree []) (statements_go limits tree.statements ts [] h.0 refl [] (omega (arith, h.1))) refl

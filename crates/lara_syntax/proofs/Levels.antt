@@ -4,7 +4,8 @@ use Rattle.lara_data.specs.declared.refusal.Kind.TheVariants.{TooMany}
 use Rattle.lara_syntax.specs.declared.item.Sign.TheVariants.{Close}
 use Rattle.lara_syntax.specs.declared.count.Count.{Count}
 use Rattle.lara_syntax.specs.Steps.{Items, Reader, ◌>>=◌, give, refuse, skip}
-use Rattle.lara_syntax.specs.Reading.{Counted, sign, inside, operand, table}
+use Rattle.lara_syntax.specs.Reading.{Counted, inside, operand, table}
+use Rattle.lara_syntax.specs.WordReading.{sign}
 
 -- a table behind (
 abbrev pub inside_rest : Count → ℕ → Count → ℕ → Reader Counted

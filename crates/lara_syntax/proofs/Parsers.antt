@@ -40,13 +40,13 @@ regrouped before bad after = append_assoc before (bad ∷ []) after
 
 -- limits wider than two others
 abbrev above : Limits → Limits → Limits
-above a b = record { statements = suc (a.statements + b.statements); levels = suc (a.levels + b.levels); counted = record { operators = suc (a.counted.operators + b.counted.operators) } }
+above a b = record { statements = suc (a.statements + b.statements); levels = suc (a.levels + b.levels); counted = record { operators = suc (a.counted.operators + b.counted.operators); signs = suc (a.counted.signs + b.counted.signs) } }
 
 above_first : (a b : Limits) → Less a (above a b)
-above_first a b = (omega arith, omega arith, omega arith)
+above_first a b = (omega arith, omega arith, (omega arith, omega arith))
 
 above_second : (a b : Limits) → Less b (above a b)
-above_second a b = (omega arith, omega arith, omega arith)
+above_second a b = (omega arith, omega arith, (omega arith, omega arith))
 
 not_both : (k : Kind) → k ≡ TooMany → k ≡ Unexpected → ⊥
 not_both k e f = let q : TooMany ≡ Unexpected = sym e ∙ f in absurd cc

@@ -2,6 +2,7 @@
 use Rattle.std.proofs.Common.{◌≡◌, ◌<◌, ℕ, zero, suc, List, [], ◌∷◌, ◌++◌, length, Option, Some, None, Ok, Err, inl, inr, refl, sym, ap, ◌∙◌, arith, Bool, true, false, cond}
 use Rattle.lara_syntax.specs.declared.item.Lexeme.{Lexeme}
 use Rattle.lara_syntax.specs.declared.item.Lexeme.TheVariants as lex
+use Rattle.lara_syntax.specs.declared.item.Keyword.{Keyword}
 use Rattle.lara_syntax.specs.declared.item.Keyword.TheVariants as key
 use Rattle.lara_syntax.specs.declared.item.Sign.{Sign}
 use Rattle.lara_syntax.specs.declared.item.Sign.TheVariants.{Semi, Comma, Colon, OpenBracket, CloseBracket, OpenBrace, CloseBrace}
@@ -11,11 +12,12 @@ use Rattle.lara_syntax.specs.declared.fault.Fault.TheVariants as faults
 use Rattle.lara_syntax.specs.declared.ast.AstEntry.{AstEntry}
 use Rattle.lara_syntax.specs.Steps.{Items, Read, Reader, ◌>>=◌, give, refuse, peek, skip, items_from, head_word}
 use Rattle.lara_syntax.specs.Reading as r
-use Rattle.lara_syntax.specs.FixedWords.{same_sign}
-use Rattle.lara_syntax.specs.Reading.{sign, sign_by}
+use Rattle.lara_syntax.specs.WordReading as words
+use Rattle.lara_syntax.specs.FixedWords.{same_keyword, same_sign}
+use Rattle.lara_syntax.specs.WordReading.{sign, sign_by}
 use Rattle.lara_syntax.proofs.Turns.{TakesOne, erred, list-some, list-none, list-fail}
 use Rattle.lara_syntax.proofs.Readers.{bind_err, ok_err, stop_is}
-use Rattle.lara_syntax.proofs.RuleReaders.{comma_name-one, comma_key_col-one, comma_val_col-one, comma_lit-one, semi_entry-one, print_rest}
+use Rattle.lara_syntax.proofs.RuleReaders.{comma_name-one, comma_key_col-one, comma_val_col-one, comma_lit-one, semi_entry-one, comma_pair-one}
 
 abbrev pub Plain : {A : Type 0} → Reader A → Type 0
 Plain {A = A} p = (ts : Items) (d : Stop) → p ts ≡ erred d → d.kind ≡ Unexpected
@@ -67,49 +69,57 @@ pub sign-plain : (m : Sign) → Plain (sign m)
 unfolding sign
 sign-plain m = plain_choice (sign_by m) (sign_by-plain m)
 
-name_by-plain : (w : Option Lexeme) → Plain (r.name_by w)
+keyword_by-plain : (k : Keyword) (w : Option Lexeme) → Plain (words.keyword_by k w)
+keyword_by-plain k (Some (lex.Key j)) = plain_cond (same_keyword k j) skip (refuse Unexpected) plain_skip plain_refuse
+keyword_by-plain k w = plain_refuse
+
+pub keyword-plain : (k : Keyword) → Plain (words.keyword k)
+unfolding words.keyword
+keyword-plain k = plain_choice (words.keyword_by k) (keyword_by-plain k)
+
+name_by-plain : (w : Option Lexeme) → Plain (words.name_by w)
 name_by-plain (Some (lex.Name n)) = plain_bind skip _ plain_skip (λ at. plain_give _)
 name_by-plain w = plain_refuse
 
-pub name-plain : Plain r.name
-unfolding r.name
-name-plain = plain_choice r.name_by name_by-plain
+pub name-plain : Plain words.name
+unfolding words.name
+name-plain = plain_choice words.name_by name_by-plain
 
-taken_as-plain : {A B : Type 0} (make : ℕ → A → B) (x : Option A) → Plain (r.taken_as make x)
+taken_as-plain : {A B : Type 0} (make : ℕ → A → B) (x : Option A) → Plain (words.taken_as make x)
 taken_as-plain make (Some x) = plain_bind skip _ plain_skip (λ at. plain_give _)
 taken_as-plain make None = plain_refuse
 
-key_type-plain : Plain r.key_type
-unfolding r.key_type
-key_type-plain = plain_choice r.key_type_by (λ w. taken_as-plain r.without_place (r.next_as r.word_key_type w))
+key_type-plain : Plain words.key_type
+unfolding words.key_type
+key_type-plain = plain_choice words.key_type_by (λ w. taken_as-plain words.without_place (words.next_as words.word_key_type w))
 
-val_type-plain : Plain r.val_type
-unfolding r.val_type
-val_type-plain = plain_choice r.val_type_by (λ w. taken_as-plain r.without_place (r.next_as r.word_val_type w))
+val_type-plain : Plain words.val_type
+unfolding words.val_type
+val_type-plain = plain_choice words.val_type_by (λ w. taken_as-plain words.without_place (words.next_as words.word_val_type w))
 
-lit-plain : Plain r.lit
-unfolding r.lit
-lit-plain = plain_choice r.lit_by (λ w. taken_as-plain r.lit_at (r.next_as r.literal_of w))
+pub lit-plain : Plain words.lit
+unfolding words.lit
+lit-plain = plain_choice words.lit_by (λ w. taken_as-plain words.lit_at (words.next_as words.literal_of w))
 
-comma_by-plain : {A : Type 0} (p : Reader A) → Plain p → (w : Option Lexeme) → Plain (r.comma_by p w)
+comma_by-plain : {A : Type 0} (p : Reader A) → Plain p → (w : Option Lexeme) → Plain (words.comma_by p w)
 comma_by-plain p pp (Some (lex.Sign Comma)) = plain_bind skip (λ at. p >>= λ x. give (Some x)) plain_skip (λ at. plain_bind p (λ x. give (Some x)) pp (λ x. plain_give (Some x)))
 comma_by-plain p pp w = plain_give None
 
-commas-plain : {A : Type 0} (p : Reader A) → Plain p → TakesOne (r.comma_then p) → Plain (p >>= λ x. items_from (r.comma_then p) (x ∷ []))
-commas-plain p pp one = plain_bind p (λ x. items_from (r.comma_then p) (x ∷ [])) pp (λ x. plain_items (r.comma_then p) one (plain_choice (r.comma_by p) (comma_by-plain p pp)) (x ∷ []))
+commas-plain : {A : Type 0} (p : Reader A) → Plain p → TakesOne (words.comma_then p) → Plain (p >>= λ x. items_from (words.comma_then p) (x ∷ []))
+commas-plain p pp one = plain_bind p (λ x. items_from (words.comma_then p) (x ∷ [])) pp (λ x. plain_items (words.comma_then p) one (plain_choice (words.comma_by p) (comma_by-plain p pp)) (x ∷ []))
 
 some_names_by-plain : (w : Option Lexeme) → Plain (r.some_names_by w)
 unfolding r.comma_name
-some_names_by-plain (Some (lex.Name n)) = commas-plain r.name name-plain comma_name-one
+some_names_by-plain (Some (lex.Name n)) = commas-plain words.name name-plain comma_name-one
 some_names_by-plain w = plain_give []
 
 pub some_names-plain : Plain r.some_names
 unfolding r.some_names
 some_names-plain = plain_choice r.some_names_by some_names_by-plain
 
-key_col-plain : Plain r.key_col
+pub key_col-plain : Plain r.key_col
 unfolding r.key_col
-key_col-plain = plain_bind r.name _ name-plain (λ x. plain_bind (sign Colon) _ (sign-plain Colon) (λ at. plain_bind r.key_type _ key_type-plain (λ t. plain_give _)))
+key_col-plain = plain_bind words.name _ name-plain (λ x. plain_bind (sign Colon) _ (sign-plain Colon) (λ at. plain_bind words.key_type _ key_type-plain (λ t. plain_give _)))
 
 some_key_cols_by-plain : (w : Option Lexeme) → Plain (r.some_key_cols_by w)
 unfolding r.comma_key_col
@@ -120,9 +130,9 @@ some_key_cols-plain : Plain r.some_key_cols
 unfolding r.some_key_cols
 some_key_cols-plain = plain_choice r.some_key_cols_by some_key_cols_by-plain
 
-val_col-plain : Plain r.val_col
+pub val_col-plain : Plain r.val_col
 unfolding r.val_col
-val_col-plain = plain_bind r.name _ name-plain (λ x. plain_bind (sign Colon) _ (sign-plain Colon) (λ at. plain_bind r.val_type _ val_type-plain (λ t. plain_give _)))
+val_col-plain = plain_bind words.name _ name-plain (λ x. plain_bind (sign Colon) _ (sign-plain Colon) (λ at. plain_bind words.val_type _ val_type-plain (λ t. plain_give _)))
 
 val_cols-plain : Plain r.val_cols
 unfolding r.val_cols r.comma_val_col
@@ -134,10 +144,10 @@ table_type-plain = plain_bind (sign OpenBracket) _ (sign-plain OpenBracket) (λ 
 
 lits-plain : Plain r.lits
 unfolding r.lits r.comma_lit
-lits-plain = commas-plain r.lit lit-plain comma_lit-one
+lits-plain = commas-plain words.lit lit-plain comma_lit-one
 
 some_lits_by-plain : (w : Option Lexeme) → Plain (r.some_lits_by w)
-some_lits_by-plain w = plain_cond (r.is_literal w) r.lits (give []) lits-plain (plain_give [])
+some_lits_by-plain w = plain_cond (words.is_literal w) r.lits (give []) lits-plain (plain_give [])
 
 some_lits-plain : Plain r.some_lits
 unfolding r.some_lits
@@ -152,7 +162,7 @@ an_entry-plain = plain_bind r.entry _ entry-plain (λ x. plain_give _)
 
 entry_here_by-plain : (w : Option Lexeme) → Plain (r.entry_here_by w)
 entry_here_by-plain (Some (lex.Sign Colon)) = an_entry-plain
-entry_here_by-plain w = plain_cond (r.is_literal w) r.an_entry (give None) an_entry-plain (plain_give None)
+entry_here_by-plain w = plain_cond (words.is_literal w) r.an_entry (give None) an_entry-plain (plain_give None)
 
 entry_here-plain : Plain r.entry_here
 unfolding r.entry_here
@@ -175,8 +185,8 @@ unfolding r.some_entries
 some_entries-plain = plain_bind r.entry_here r.entries_from entry_here-plain entries_from-plain
 
 leaf_by-plain : (w : Option Lexeme) → Plain (r.leaf_by w)
-leaf_by-plain (Some (lex.Name n)) = plain_bind r.name _ name-plain (λ x. plain_give _)
-leaf_by-plain (Some (lex.Key key.Load)) = plain_bind skip _ plain_skip (λ at. plain_bind r.name _ name-plain (λ x. plain_give _))
+leaf_by-plain (Some (lex.Name n)) = plain_bind words.name _ name-plain (λ x. plain_give _)
+leaf_by-plain (Some (lex.Key key.Load)) = plain_bind skip _ plain_skip (λ at. plain_bind words.name _ name-plain (λ x. plain_give _))
 leaf_by-plain (Some (lex.Key key.Table)) = plain_bind skip _ plain_skip (λ at. plain_bind r.table_type _ table_type-plain (λ ty. plain_bind (sign OpenBrace) _ (sign-plain OpenBrace) (λ a. plain_bind r.some_entries _ some_entries-plain (λ es. plain_bind (sign CloseBrace) _ (sign-plain CloseBrace) (λ b. plain_give _)))))
 leaf_by-plain w = plain_refuse
 
@@ -184,13 +194,13 @@ pub leaf-plain : Plain r.leaf
 unfolding r.leaf
 leaf-plain = plain_choice r.leaf_by leaf_by-plain
 
-by_word_by-plain : (w : Option Lexeme) → Plain (r.by_word_by w)
-by_word_by-plain (Some (lex.Key key.By)) = plain_skip
-by_word_by-plain w = plain_refuse
+pair-plain : Plain r.pair
+unfolding r.pair
+pair-plain = plain_bind words.name _ name-plain (λ x. plain_bind (words.keyword key.To) _ (keyword-plain key.To) (λ at. plain_bind words.name _ name-plain (λ y. plain_give _)))
 
-pub by_word-plain : Plain r.by_word
-unfolding r.by_word
-by_word-plain = plain_choice r.by_word_by by_word_by-plain
+pub pairs-plain : Plain r.pairs
+unfolding r.pairs r.comma_pair
+pairs-plain = commas-plain r.pair pair-plain comma_pair-one
 
 some_order_by-plain : (w : Option Lexeme) → Plain (r.some_order_by w)
 some_order_by-plain (Some (lex.Key key.By)) = plain_bind skip _ plain_skip (λ at. plain_bind r.some_names _ some_names-plain (λ ns. plain_give _))
@@ -199,6 +209,3 @@ some_order_by-plain w = plain_give None
 pub some_order-plain : Plain r.some_order
 unfolding r.some_order
 some_order-plain = plain_choice r.some_order_by some_order_by-plain
-
-pub print_rest-plain : (at : ℕ) → Plain (print_rest at)
-print_rest-plain at = plain_bind r.name _ name-plain (λ x. plain_bind r.some_order _ some_order-plain (λ by. plain_bind (sign Semi) _ (sign-plain Semi) (λ b. plain_give _)))

@@ -9,7 +9,7 @@ use Rattle.lara_syntax.specs.Limits.{Limits}
 use Rattle.lara_syntax.specs.Steps.{Items, Read, head_word}
 use Rattle.lara_syntax.specs.Reading as r
 use Rattle.lara_syntax.proofs.Turns.{read_of, value_is, err_ok, none_some}
-use Rattle.lara_syntax.proofs.RuleReaders.{has_room, next_behind, next_behind-one, statements-some, statements-none, statements-fail}
+use Rattle.lara_syntax.proofs.TableReaders.{has_room, next_behind, next_behind-one, statements-some, statements-none, statements-fail}
 
 full_by : (limits : Limits) (w : Option Lexeme) (ts : Items) (x : AstStatement) (u : Items) → r.next_by limits false w ts ≡ read_of (Some x) u → ⊥
 full_by limits None ts x u e = none_some ts u x e

@@ -1,32 +1,22 @@
 -- Each rule is a reader, and what takes a word.
-use Rattle.std.proofs.Common.{◌≡◌, ℕ, zero, suc, ◌<◌, List, [], ◌∷◌, ◌++◌, length, Option, Some, None, Ok, ap, arith, Bool, true, false, cond, nat_lt}
+use Rattle.std.proofs.Common.{◌≡◌, ℕ, ◌<◌, [], ◌∷◌, length, Option, Some, None, Bool, true, false, cond}
 use Rattle.lara_syntax.specs.declared.item.Lexeme.{Lexeme}
 use Rattle.lara_syntax.specs.declared.item.Lexeme.TheVariants as lex
+use Rattle.lara_syntax.specs.declared.item.Keyword.{Keyword}
 use Rattle.lara_syntax.specs.declared.item.Keyword.TheVariants as key
 use Rattle.lara_syntax.specs.declared.item.Sign.{Sign}
-use Rattle.lara_syntax.specs.declared.item.Sign.TheVariants.{Is, Semi, Comma, Colon, OpenBracket, CloseBracket, OpenBrace, CloseBrace, Open, Close}
-use Rattle.lara_data.specs.declared.refusal.Kind.TheVariants.{Unexpected, TooMany}
-use Rattle.lara_syntax.specs.declared.fault.Fault.{Fault}
-use Rattle.lara_syntax.specs.declared.ast.Ast.{Ast}
-use Rattle.lara_syntax.specs.declared.ast.AstName.{AstName}
+use Rattle.lara_syntax.specs.declared.item.Sign.TheVariants.{Semi, Comma, Colon, OpenBracket, CloseBracket, OpenBrace, CloseBrace}
+use Rattle.lara_data.specs.declared.refusal.Kind.TheVariants.{Unexpected}
 use Rattle.lara_syntax.specs.declared.ast.AstEntry.{AstEntry}
-use Rattle.lara_syntax.specs.declared.ast.AstNode.{AstNode}
-use Rattle.lara_syntax.specs.declared.ast.AstOp.{AstOp}
-use Rattle.lara_syntax.specs.declared.ast.AstOp.TheVariants as op
-use Rattle.lara_syntax.specs.declared.ast.AstStatement.{AstStatement}
-use Rattle.lara_syntax.specs.declared.ast.AstStatement.TheVariants as st
-use Rattle.std.proofs.lemmas.List.{length-append}
-use Rattle.lara_syntax.specs.Limits.{Limits, none_counted, one_operator}
-use Rattle.lara_syntax.specs.declared.count.Count.{Count}
-use Rattle.lara_syntax.specs.Steps.{Items, Reader, ◌>>=◌, give, refuse, peek, skip, items_from, head_word, Fails}
-use Rattle.lara_syntax.specs.Reading.{sign, sign_by, name, name_by, key_type, key_type_by, val_type, val_type_by, word_key_type, word_val_type, next_as, taken_as, without_place, literal_of, is_literal, lit, lit_at, lit_by, comma_by, comma_then, comma_name, some_names, some_names_by, key_col, comma_key_col, some_key_cols, some_key_cols_by, val_col, comma_val_col, val_cols, table_type, comma_lit, lits, some_lits, some_lits_by, entry, an_entry, entry_here, entry_here_by, semi_entry, semi_entry_by, entries_from, some_entries, leaf, leaf_by, Counted, operand_by, operand_with, by_word, by_word_by, operator_word, two_by, agg_by, table_by, table_with, inside, operand, table, some_order, some_order_by, statement, statement_by, no_room, next_by, next_statement, statements, tree_of, script}
-use Rattle.lara_syntax.proofs.Levels.{inside_rest}
-use Rattle.lara_syntax.proofs.Turns.{TakesOne, read_of, err_ok, none_some, rest_is, list-some, list-none, list-fail}
-use Rattle.lara_syntax.proofs.Readers.{IsReader, reads_bind, reads_give, reads_refuse, reads_peek, reads_skip, reads_items, reads_list, skip_shortens, bind_ok}
+use Rattle.lara_syntax.specs.Steps.{Items, Reader, give, peek, items_from, head_word}
+use Rattle.lara_syntax.specs.Reading.{comma_name, some_names, some_names_by, key_col, comma_key_col, some_key_cols, some_key_cols_by, val_col, comma_val_col, val_cols, table_type, comma_lit, lits, some_lits, some_lits_by, entry, an_entry, entry_here, entry_here_by, semi_entry, semi_entry_by, entries_from, some_entries, leaf, leaf_by, pair, comma_pair, pairs}
+use Rattle.lara_syntax.specs.WordReading.{sign, sign_by, keyword, keyword_by, name, name_by, key_type, key_type_by, val_type, val_type_by, word_key_type, word_val_type, next_as, taken_as, without_place, literal_of, is_literal, lit, lit_at, lit_by, comma_by, comma_then}
+use Rattle.lara_syntax.proofs.Turns.{TakesOne, read_of, none_some}
+use Rattle.lara_syntax.proofs.Readers.{IsReader, reads_bind, reads_give, reads_refuse, reads_peek, reads_skip, reads_items, skip_shortens}
 
 -- ---- one word
 
-reads_cond : {A : Type 0} (b : Bool) (p q : Reader A) → IsReader p → IsReader q → IsReader (cond b p q)
+pub reads_cond : {A : Type 0} (b : Bool) (p q : Reader A) → IsReader p → IsReader q → IsReader (cond b p q)
 reads_cond true p q ip iq = ip
 reads_cond false p q ip iq = iq
 
@@ -37,6 +27,14 @@ sign_by-reads m w = reads_refuse Unexpected
 pub sign-reads : (m : Sign) → IsReader (sign m)
 unfolding sign
 sign-reads m = reads_bind peek (sign_by m) reads_peek (sign_by-reads m)
+
+keyword_by-reads : (k : Keyword) (w : Option Lexeme) → IsReader (keyword_by k w)
+keyword_by-reads k (Some (lex.Key j)) = reads_cond _ _ _ reads_skip (reads_refuse Unexpected)
+keyword_by-reads k w = reads_refuse Unexpected
+
+pub keyword-reads : (k : Keyword) → IsReader (keyword k)
+unfolding keyword
+keyword-reads k = reads_bind peek (keyword_by k) reads_peek (keyword_by-reads k)
 
 name_by-reads : (w : Option Lexeme) → IsReader (name_by w)
 name_by-reads (Some (lex.Name n)) = reads_bind _ _ reads_skip (λ at. reads_give _)
@@ -198,7 +196,25 @@ pub some_entries-reads : IsReader some_entries
 unfolding some_entries
 some_entries-reads = reads_bind entry_here entries_from entry_here-reads entries_from-reads
 
-pub ruleset short_laws = (comma_name-one, comma_key_col-one, comma_val_col-one, comma_lit-one, semi_entry-one)
+-- ---- pairs
+
+pub pair-reads : IsReader pair
+unfolding pair
+pair-reads = reads_bind _ _ name-reads (λ x. reads_bind _ _ (keyword-reads key.To) (λ at. reads_bind _ _ name-reads (λ y. reads_give _)))
+
+pub comma_pair-reads : IsReader comma_pair
+unfolding comma_pair
+comma_pair-reads = comma-reads pair pair-reads
+
+pub comma_pair-one : TakesOne comma_pair
+unfolding comma_pair
+comma_pair-one = comma-one pair pair-reads
+
+pub pairs-reads : IsReader pairs
+unfolding pairs
+pairs-reads = reads_bind pair (λ x. items_from comma_pair (x ∷ [])) pair-reads (λ x. reads_items comma_pair comma_pair-one comma_pair-reads (x ∷ []))
+
+pub ruleset short_laws = (comma_name-one, comma_key_col-one, comma_val_col-one, comma_lit-one, semi_entry-one, comma_pair-one)
 
 -- ---- tables
 
@@ -211,193 +227,3 @@ leaf_by-reads w = reads_refuse Unexpected
 pub leaf-reads : IsReader leaf
 unfolding leaf
 leaf-reads = reads_bind peek leaf_by reads_peek leaf_by-reads
-
--- a leaf with the count before it
-abbrev pub counted : Count → AstNode → Reader Counted
-counted taken x = give (x, taken)
-
-pub counted-reads : (taken : Count) → IsReader (leaf >>= counted taken)
-counted-reads taken = reads_bind leaf (counted taken) leaf-reads (λ x. reads_give {A = Counted} (x, taken))
-
--- what is a reader whatever the count
-abbrev pub AreReaders : (Count → Reader Counted) → Type 0
-AreReaders p = (taken : Count) → IsReader (p taken)
-
-operand_by-reads : (i : Count → Reader Counted) → AreReaders i → (taken : Count) (w : Option Lexeme) → IsReader (operand_by i taken w)
-operand_by-reads i ii taken (Some (lex.Sign Open)) = ii taken
-operand_by-reads i ii taken w = counted-reads taken
-
-operand_with-reads : (i : Count → Reader Counted) → AreReaders i → AreReaders (operand_with i)
-operand_with-reads i ii taken = reads_bind peek (operand_by i taken) reads_peek (operand_by-reads i ii taken)
-
-by_word_by-reads : (w : Option Lexeme) → IsReader (by_word_by w)
-by_word_by-reads (Some (lex.Key key.By)) = reads_skip
-by_word_by-reads w = reads_refuse Unexpected
-
-pub by_word-reads : IsReader by_word
-unfolding by_word
-by_word-reads = reads_bind peek by_word_by reads_peek by_word_by-reads
-
-pub operator_word-reads : (limit taken : Count) → IsReader (operator_word limit taken)
-unfolding operator_word
-operator_word-reads limit taken = reads_cond (nat_lt taken.operators limit.operators) skip (refuse TooMany) reads_skip (reads_refuse TooMany)
-
-pub two_by-reads : (what : AstNode → AstNode → AstOp) (o : Count → Reader Counted) → AreReaders o → (taken : Count) (at : ℕ) → IsReader (two_by what o taken at)
-two_by-reads what o io taken at = reads_bind (o (one_operator taken)) _ (io (one_operator taken)) (λ a. reads_bind (o a.1) _ (io a.1) (λ b. reads_give _))
-
-pub agg_by-reads : (o : Count → Reader Counted) → AreReaders o → (taken : Count) (at : ℕ) → IsReader (agg_by o taken at)
-agg_by-reads o io taken at = reads_bind (o (one_operator taken)) _ (io (one_operator taken)) (λ a. reads_bind by_word _ by_word-reads (λ by. reads_bind some_names _ some_names-reads (λ ns. reads_give _)))
-
-table_by-reads : (limit : Count) (o : Count → Reader Counted) → AreReaders o → (taken : Count) (w : Option Lexeme) → IsReader (table_by limit o taken w)
-table_by-reads limit o io taken (Some (lex.Key key.Join)) = reads_bind (operator_word limit taken) (two_by op.Join o taken) (operator_word-reads limit taken) (two_by-reads op.Join o io taken)
-table_by-reads limit o io taken (Some (lex.Key key.Union)) = reads_bind (operator_word limit taken) (two_by op.Union o taken) (operator_word-reads limit taken) (two_by-reads op.Union o io taken)
-table_by-reads limit o io taken (Some (lex.Key key.Agg)) = reads_bind (operator_word limit taken) (agg_by o taken) (operator_word-reads limit taken) (agg_by-reads o io taken)
-table_by-reads limit o io taken w = io taken
-
-table_with-reads : (limit : Count) (o : Count → Reader Counted) → AreReaders o → AreReaders (table_with limit o)
-table_with-reads limit o io taken = reads_bind peek (table_by limit o taken) reads_peek (table_by-reads limit o io taken)
-
--- a table in brackets behind its (
-bracketed-reads : (p : Reader Counted) → IsReader p → IsReader (p >>= λ x. sign Close >>= λ end. give x)
-bracketed-reads p ip = reads_bind p _ ip (λ x. reads_bind (sign Close) _ (sign-reads Close) (λ end. reads_give x))
-
-pub inside-reads : (limit : Count) (levels : ℕ) → AreReaders (inside limit levels)
-unfolding inside
-inside-reads limit zero taken = reads_refuse TooMany
-inside-reads limit (suc levels) taken = reads_bind _ _ reads_skip (λ at. bracketed-reads (table_with limit (operand_with (inside limit levels)) taken) (table_with-reads limit (operand_with (inside limit levels)) (operand_with-reads (inside limit levels) (inside-reads limit levels)) taken))
-
-pub operand-reads : (limit : Count) (levels : ℕ) → AreReaders (operand limit levels)
-unfolding operand
-operand-reads limit levels = operand_with-reads (inside limit levels) (inside-reads limit levels)
-
-pub table-reads : (limit : Count) (levels : ℕ) → AreReaders (table limit levels)
-unfolding table
-table-reads limit levels = table_with-reads limit (operand limit levels) (operand-reads limit levels)
-
-pub inside_rest-reads : (limit : Count) (levels : ℕ) (taken : Count) (at : ℕ) → IsReader (inside_rest limit levels taken at)
-inside_rest-reads limit levels taken at = bracketed-reads (table limit levels taken) (table-reads limit levels taken)
-
--- ---- statements
-
-some_order_by-reads : (w : Option Lexeme) → IsReader (some_order_by w)
-some_order_by-reads (Some (lex.Key key.By)) = reads_bind _ _ reads_skip (λ at. reads_bind _ _ some_names-reads (λ ns. reads_give _))
-some_order_by-reads w = reads_give None
-
-pub some_order-reads : IsReader some_order
-unfolding some_order
-some_order-reads = reads_bind peek some_order_by reads_peek some_order_by-reads
-
--- an assignment behind its table, and behind its name
-abbrev pub assign_end : AstName → Counted → Reader AstStatement
-assign_end x t = sign Semi >>= λ end. give (st.Assign x.at x t.0)
-
-pub assign_end-reads : (x : AstName) (t : Counted) → IsReader (assign_end x t)
-assign_end-reads x t = reads_bind (sign Semi) (λ end. give (st.Assign x.at x t.0)) (sign-reads Semi) (λ end. reads_give _)
-
-abbrev pub assign_rest : Limits → AstName → Reader AstStatement
-assign_rest limits x = sign Is >>= λ is. table limits.counted limits.levels none_counted >>= assign_end x
-
-pub assign_rest-reads : (limits : Limits) (x : AstName) → IsReader (assign_rest limits x)
-assign_rest-reads limits x = reads_bind _ _ (sign-reads Is) (λ is. reads_bind (table limits.counted limits.levels none_counted) (assign_end x) (table-reads limits.counted limits.levels none_counted) (assign_end-reads x))
-
--- a print behind its first word
-abbrev pub print_rest : ℕ → Reader AstStatement
-print_rest at = name >>= λ x. some_order >>= λ by. sign Semi >>= λ end. give (st.Print at x by)
-
-pub print_rest-reads : (at : ℕ) → IsReader (print_rest at)
-print_rest-reads at = reads_bind _ _ name-reads (λ x. reads_bind _ _ some_order-reads (λ by. reads_bind _ _ (sign-reads Semi) (λ end. reads_give _)))
-
-statement_by-reads : (limits : Limits) (w : Option Lexeme) → IsReader (statement_by limits w)
-statement_by-reads limits (Some (lex.Name n)) = reads_bind name (assign_rest limits) name-reads (assign_rest-reads limits)
-statement_by-reads limits (Some (lex.Key key.Print)) = reads_bind _ _ reads_skip print_rest-reads
-statement_by-reads limits w = reads_refuse Unexpected
-
-pub statement-reads : (limits : Limits) → IsReader (statement limits)
-unfolding statement
-statement-reads limits = reads_bind peek (statement_by limits) reads_peek (statement_by-reads limits)
-
--- a name takes a word
-name_one : (w : Option Lexeme) (ts : Items) (x : AstName) (u : Items) → name_by w ts ≡ read_of x u → length u < length ts
-name_one (Some (lex.Name n)) ts x u e = skip_shortens _ (λ at. reads_give _) ts x u e
-name_one w ts x u e = absurd (err_ok {A = AstName} _ (x, u) e)
-
-statement_by-one : (limits : Limits) (w : Option Lexeme) (ts : Items) (x : AstStatement) (u : Items) → statement_by limits w ts ≡ read_of x u → length u < length ts
-unfolding name
-statement_by-one limits (Some (lex.Name n)) ts x u e =
-    let h = bind_ok (name ts) (assign_rest limits) (x, u) e in
-    let f = (assign_rest-reads limits h.0).front h.1 x u h.3 in
-    let l = name_one (head_word ts) ts h.0 h.1 h.2 in
-    omega (arith, l, ap length f.1, length-append f.0 u)
-statement_by-one limits (Some (lex.Key key.Print)) ts x u e = skip_shortens _ print_rest-reads ts x u e
-statement_by-one limits w ts x u e = absurd (err_ok {A = AstStatement} _ (x, u) e)
-
-pub statement-one : (limits : Limits) (ts : Items) (x : AstStatement) (u : Items) → statement limits ts ≡ read_of x u → length u < length ts
-unfolding statement
-statement-one limits ts x u e = statement_by-one limits (head_word ts) ts x u e
-
-next_by-one : (limits : Limits) (room : Bool) (w : Option Lexeme) (ts : Items) (x : AstStatement) (u : Items) → next_by limits room w ts ≡ read_of (Some x) u → length u < length ts
-next_by-one limits room None ts x u e = absurd (none_some ts u x e)
-next_by-one limits true (Some w) ts x u e =
-    let h = bind_ok (statement limits ts) (λ y. give (Some y)) (Some x, u) e in
-    let r = rest_is (Some h.0) h.1 (Some x) u h.3 in
-    let l = statement-one limits ts h.0 h.1 h.2 in
-    omega (arith, l, ap length r)
-next_by-one limits false (Some w) ts x u e = absurd (err_ok {A = Option AstStatement} _ (Some x, u) e)
-
-pub next_statement-one : (limits : Limits) (room : Bool) → TakesOne (next_statement limits room)
-unfolding next_statement
-next_statement-one limits room = record { shorter = λ ts x u e. next_by-one limits room (head_word ts) ts x u e }
-
-next_by-reads : (limits : Limits) (room : Bool) (w : Option Lexeme) → IsReader (next_by limits room w)
-next_by-reads limits room None = reads_give None
-next_by-reads limits true (Some w) = reads_bind (statement limits) _ (statement-reads limits) (λ x. reads_give _)
-next_by-reads limits false (Some w) = reads_refuse (no_room w)
-
-pub next_statement-reads : (limits : Limits) (room : Bool) → IsReader (next_statement limits room)
-unfolding next_statement
-next_statement-reads limits room = reads_bind peek (next_by limits room) reads_peek (next_by-reads limits room)
-
--- whether there is room behind others
-abbrev pub has_room : Limits → List AstStatement → Bool
-has_room limits xs = nat_lt (length xs) limits.statements
-
--- the statement behind others
-abbrev pub next_behind : Limits → List AstStatement → Reader (Option AstStatement)
-next_behind limits xs = next_statement limits (has_room limits xs)
-
-pub next_behind-one : (limits : Limits) (xs : List AstStatement) → TakesOne (next_behind limits xs)
-next_behind-one limits xs = next_statement-one limits (has_room limits xs)
-
-pub next_behind-reads : (limits : Limits) (xs : List AstStatement) → IsReader (next_behind limits xs)
-next_behind-reads limits xs = next_statement-reads limits (has_room limits xs)
-
-pub statements-reads : (limits : Limits) (xs : List AstStatement) → IsReader (statements limits xs)
-unfolding statements
-statements-reads limits xs = reads_list (next_behind limits) (next_behind-one limits) (next_behind-reads limits) xs
-
--- the tree of the statements
-abbrev pub tree_given : List AstStatement → Reader Ast
-tree_given xs = give (tree_of xs)
-
-pub tree_given-reads : (xs : List AstStatement) → IsReader (tree_given xs)
-tree_given-reads xs = reads_give (tree_of xs)
-
-pub script-reads : (limits : Limits) → IsReader (script limits)
-unfolding script
-script-reads limits = reads_bind (statements limits []) tree_given (statements-reads limits []) tree_given-reads
-
--- ---- the loop of statements
-
-pub statements-some : (limits : Limits) (xs : List AstStatement) (ts : Items) (x : AstStatement) (u : Items) → next_statement limits (nat_lt (length xs) limits.statements) ts ≡ Ok (Some x, u) → statements limits xs ts ≡ statements limits (xs ++ x ∷ []) u
-unfolding statements
-statements-some limits xs ts x u e = list-some (next_behind limits) (next_behind-one limits) xs ts x u e
-
-pub statements-none : (limits : Limits) (xs : List AstStatement) (ts : Items) (o : Option AstStatement) (u : Items) → next_statement limits (nat_lt (length xs) limits.statements) ts ≡ Ok (o, u) → o ≡ None → statements limits xs ts ≡ Ok (xs, u)
-unfolding statements
-statements-none limits xs ts o u e n = list-none (next_behind limits) (next_behind-one limits) xs ts o u e n
-
-pub statements-fail : (limits : Limits) (xs : List AstStatement) (ts : Items) (e : Fault) → Fails e (next_statement limits (nat_lt (length xs) limits.statements) ts) → Fails e (statements limits xs ts)
-unfolding statements
-statements-fail limits xs ts e h = list-fail (next_behind limits) (next_behind-one limits) xs ts e h
-
-pub ruleset statement_laws = (next_statement-one, statements-some, statements-none, statements-fail)

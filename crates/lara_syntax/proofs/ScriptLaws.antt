@@ -12,9 +12,9 @@ use Rattle.lara_syntax.specs.Refusals.{FirstWrong}
 use Rattle.lara_syntax.specs.StartSymbols.{Stands}
 use Rattle.lara_syntax.proofs.Turns.{read_of}
 use Rattle.lara_syntax.proofs.Readers.{bind_ok}
-use Rattle.lara_syntax.proofs.RuleReaders.{tree_given, script-reads}
-use Rattle.lara_syntax.proofs.Complete.{script_reads}
-use Rattle.lara_syntax.proofs.Sound.{statements_sound}
+use Rattle.lara_syntax.proofs.TableReaders.{tree_given, script-reads}
+use Rattle.lara_syntax.proofs.CompleteTables.{script_reads}
+use Rattle.lara_syntax.proofs.SoundTables.{statements_sound}
 use Rattle.lara_syntax.proofs.SoundWords.{give_to}
 use Rattle.lara_syntax.proofs.Room.{within}
 use Rattle.lara_syntax.proofs.ViableScript.{script_viable}

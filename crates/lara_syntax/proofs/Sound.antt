@@ -1,55 +1,47 @@
 -- What is read is in the grammar: the rules.
-use Rattle.std.proofs.Common.{◌≡◌, ℕ, zero, suc, ◌<◌, ◌≤◌, ◌+◌, Bool, true, false, nat_lt, cond, List, [], ◌∷◌, length, Option, Some, None, Ok, refl, sym, subst, ◌∙◌, arith}
-use Rattle.std.proofs.lemmas.Bool.{ltb-true}
-use Rattle.lara_data.specs.declared.refusal.Kind.TheVariants.{TooMany}
+use Rattle.std.proofs.Common.{◌≡◌, ◌<◌, Bool, true, false, cond, List, [], ◌∷◌, length, Option, Some, None, Ok, refl, sym, subst, arith}
 use Rattle.lara_syntax.specs.declared.item.Lexeme.{Lexeme}
 use Rattle.lara_syntax.specs.declared.item.Lexeme.TheVariants as lex
-use Rattle.lara_syntax.specs.declared.item.Keyword.{Keyword}
 use Rattle.lara_syntax.specs.declared.item.Keyword.TheVariants as key
-use Rattle.lara_syntax.specs.declared.item.Sign.TheVariants.{Is, Semi, Colon, OpenBracket, CloseBracket, OpenBrace, CloseBrace, Open, Close}
+use Rattle.lara_syntax.specs.declared.item.Sign.TheVariants.{Semi, Colon, OpenBracket, CloseBracket, OpenBrace, CloseBrace}
 use Rattle.lara_syntax.specs.declared.ast.AstName.{AstName}
-use Rattle.lara_syntax.specs.declared.ast.AstBy.{AstBy}
 use Rattle.lara_syntax.specs.declared.ast.AstKeyCol.{AstKeyCol}
 use Rattle.lara_syntax.specs.declared.ast.AstValCol.{AstValCol}
 use Rattle.lara_syntax.specs.declared.ast.AstLit.{AstLit}
 use Rattle.lara_syntax.specs.declared.ast.AstEntry.{AstEntry}
 use Rattle.lara_syntax.specs.declared.ast.AstNode.{AstNode}
-use Rattle.lara_syntax.specs.declared.ast.AstOp.{AstOp}
 use Rattle.lara_syntax.specs.declared.ast.AstOp.TheVariants as op
-use Rattle.lara_syntax.specs.declared.ast.AstStatement.{AstStatement}
-use Rattle.lara_syntax.specs.declared.ast.AstStatement.TheVariants as st
-use Rattle.lara_syntax.specs.Limits.{Limits, none_counted, one_operator, together}
-use Rattle.lara_syntax.specs.declared.count.Count.{Count}
-use Rattle.lara_syntax.specs.Steps.{Items, Reader, ◌>>=◌, give, refuse, skip, head_word}
+use Rattle.lara_syntax.specs.Steps.{Items, ◌>>=◌, give, skip, head_word}
 use Rattle.lara_syntax.specs.Reading as r
+use Rattle.lara_syntax.specs.WordReading as words
 use Rattle.lara_syntax.specs.Places.{first_at, node}
-use Rattle.lara_syntax.specs.Reading.{sign, Counted}
-use Rattle.lara_syntax.specs.Grammar.{Word, Mark, Named, Lit, Many, Commas, commas, Maybe, nothing, just, KeyCol, key_col, ValCol, val_col, TypeOf, columns, Entry, entry, SemiEntry, semi_entry, SomeSemi, no_semi, semi, Entries, entries, Leaf, named, load, literal, Operand, leaf, inside, Table, join, union, agg, operand, SomeOrder, no_order, order, Statement, assign, print}
-use Rattle.lara_syntax.proofs.Levels.{inside_rest}
+use Rattle.lara_syntax.specs.WordReading.{sign}
+use Rattle.lara_syntax.specs.Grammar.{KeyCol, key_col, ValCol, val_col, TypeOf, columns, Entry, entry, SemiEntry, semi_entry, SomeSemi, no_semi, semi, Entries, entries, Pair, pair, Leaf, named, load, literal}
+use Rattle.lara_syntax.specs.WordGrammar.{Mark, Named, Lit, Commas, commas, Maybe, nothing, just}
 use Rattle.lara_syntax.proofs.Turns.{read_of, rest_is, err_ok, none_some}
-use Rattle.lara_syntax.proofs.RuleReaders.{comma_name-one, comma_key_col-one, comma_val_col-one, comma_lit-one, semi_entry-one, assign_rest, print_rest, has_room, next_behind, next_behind-one}
+use Rattle.lara_syntax.proofs.RuleReaders.{comma_name-one, comma_key_col-one, comma_val_col-one, comma_lit-one, semi_entry-one, comma_pair-one}
 use Rattle.lara_syntax.proofs.Readers.{bind_ok}
-use Rattle.lara_syntax.proofs.SoundWords.{give_to, read_some, some_none, word_taken, sign_sound, Sound, name_sound, lit_sound, key_type_sound, val_type_sound, listed, commas_sound, absent}
+use Rattle.lara_syntax.proofs.SoundWords.{give_to, read_some, some_none, word_taken, sign_sound, keyword_sound, Sound, name_sound, lit_sound, key_type_sound, val_type_sound, listed, commas_sound, absent}
 
 -- ---- names
 
 some_names_when : (o : Option Lexeme) (ts : Items) (ns : List AstName) (u : Items) → r.some_names_by o ts ≡ read_of ns u → Maybe (Commas Named) ns ts u
 unfolding r.comma_name
-some_names_when (Some (lex.Name n)) ts ns u e = just ns ts u (commas_sound Named r.name name_sound comma_name-one ts ns u e)
+some_names_when (Some (lex.Name n)) ts ns u e = just ns ts u (commas_sound Named words.name name_sound comma_name-one ts ns u e)
 some_names_when w ts ns u e = absent (Commas Named) ts ns u e
 
-some_names_sound : Sound (Maybe (Commas Named)) r.some_names
+pub some_names_sound : Sound (Maybe (Commas Named)) r.some_names
 unfolding r.some_names
 some_names_sound ts ns u e = some_names_when (head_word ts) ts ns u e
 
 -- ---- columns
 
-key_col_sound : Sound KeyCol r.key_col
+pub key_col_sound : Sound KeyCol r.key_col
 unfolding r.key_col
 key_col_sound ts x u e =
-    let a = bind_ok (r.name ts) (λ n. sign Colon >>= λ at. r.key_type >>= λ t. give (record { name = n; ty = t })) (x, u) e in
-    let b = bind_ok (sign Colon a.1) (λ at. r.key_type >>= λ t. give (record { name = a.0; ty = t })) (x, u) a.3 in
-    let c = bind_ok (r.key_type b.1) (λ t. give (record { name = a.0; ty = t })) (x, u) b.3 in
+    let a = bind_ok (words.name ts) (λ n. sign Colon >>= λ at. words.key_type >>= λ t. give (record { name = n; ty = t })) (x, u) e in
+    let b = bind_ok (sign Colon a.1) (λ at. words.key_type >>= λ t. give (record { name = a.0; ty = t })) (x, u) a.3 in
+    let c = bind_ok (words.key_type b.1) (λ t. give (record { name = a.0; ty = t })) (x, u) b.3 in
     give_to (λ y q. KeyCol y ts q) (record { name = a.0; ty = c.0 }) c.1 x u c.3 (key_col b.0 a.0 c.0 ts a.1 b.1 c.1 (name_sound ts a.0 a.1 a.2) (sign_sound Colon a.1 b.0 b.1 b.2) (key_type_sound b.1 c.0 c.1 c.2))
 
 some_key_cols_when : (o : Option Lexeme) (ts : Items) (xs : List AstKeyCol) (u : Items) → r.some_key_cols_by o ts ≡ read_of xs u → Maybe (Commas KeyCol) xs ts u
@@ -61,12 +53,12 @@ some_key_cols_sound : Sound (Maybe (Commas KeyCol)) r.some_key_cols
 unfolding r.some_key_cols
 some_key_cols_sound ts xs u e = some_key_cols_when (head_word ts) ts xs u e
 
-val_col_sound : Sound ValCol r.val_col
+pub val_col_sound : Sound ValCol r.val_col
 unfolding r.val_col
 val_col_sound ts x u e =
-    let a = bind_ok (r.name ts) (λ n. sign Colon >>= λ at. r.val_type >>= λ t. give (record { name = n; ty = t })) (x, u) e in
-    let b = bind_ok (sign Colon a.1) (λ at. r.val_type >>= λ t. give (record { name = a.0; ty = t })) (x, u) a.3 in
-    let c = bind_ok (r.val_type b.1) (λ t. give (record { name = a.0; ty = t })) (x, u) b.3 in
+    let a = bind_ok (words.name ts) (λ n. sign Colon >>= λ at. words.val_type >>= λ t. give (record { name = n; ty = t })) (x, u) e in
+    let b = bind_ok (sign Colon a.1) (λ at. words.val_type >>= λ t. give (record { name = a.0; ty = t })) (x, u) a.3 in
+    let c = bind_ok (words.val_type b.1) (λ t. give (record { name = a.0; ty = t })) (x, u) b.3 in
     give_to (λ y q. ValCol y ts q) (record { name = a.0; ty = c.0 }) c.1 x u c.3 (val_col b.0 a.0 c.0 ts a.1 b.1 c.1 (name_sound ts a.0 a.1 a.2) (sign_sound Colon a.1 b.0 b.1 b.2) (val_type_sound b.1 c.0 c.1 c.2))
 
 val_cols_sound : Sound (Commas ValCol) r.val_cols
@@ -95,7 +87,7 @@ table_type_sound ts x u e =
 
 lits_sound : Sound (Commas Lit) r.lits
 unfolding r.lits r.comma_lit
-lits_sound ts xs u e = commas_sound Lit r.lit lit_sound comma_lit-one ts xs u e
+lits_sound ts xs u e = commas_sound Lit words.lit lit_sound comma_lit-one ts xs u e
 
 some_lits_when : (here : Bool) (ts : Items) (xs : List AstLit) (u : Items) → cond here r.lits (give []) ts ≡ read_of xs u → Maybe (Commas Lit) xs ts u
 some_lits_when true ts xs u e = just xs ts u (lits_sound ts xs u e)
@@ -103,7 +95,7 @@ some_lits_when false ts xs u e = absent (Commas Lit) ts xs u e
 
 some_lits_sound : Sound (Maybe (Commas Lit)) r.some_lits
 unfolding r.some_lits
-some_lits_sound ts xs u e = some_lits_when (r.is_literal (head_word ts)) ts xs u e
+some_lits_sound ts xs u e = some_lits_when (words.is_literal (head_word ts)) ts xs u e
 
 entry_sound : Sound Entry r.entry
 unfolding r.entry
@@ -119,7 +111,7 @@ entry_at_some false ts x u e = absurd (none_some ts u x e)
 
 entry_here_some : (o : Option Lexeme) (ts : Items) (x : AstEntry) (u : Items) → r.entry_here_by o ts ≡ read_of (Some x) u → Entry x ts u
 entry_here_some (Some (lex.Sign Colon)) ts x u e = entry_sound ts x u (read_some (r.entry ts) x u e)
-entry_here_some w ts x u e = entry_at_some (r.is_literal w) ts x u e
+entry_here_some w ts x u e = entry_at_some (words.is_literal w) ts x u e
 
 entry_here_sound : (ts : Items) (x : AstEntry) (u : Items) → r.entry_here ts ≡ read_of (Some x) u → Entry x ts u
 unfolding r.entry_here
@@ -131,7 +123,7 @@ entry_at_none false ts u e = rest_is {A = Option AstEntry} None ts None u e
 
 entry_none_by : (o : Option Lexeme) (ts : Items) (u : Items) → r.entry_here_by o ts ≡ read_of None u → ts ≡ u
 entry_none_by (Some (lex.Sign Colon)) ts u e = absurd (some_none (r.entry ts) u e)
-entry_none_by w ts u e = entry_at_none (r.is_literal w) ts u e
+entry_none_by w ts u e = entry_at_none (words.is_literal w) ts u e
 
 entry_here_none : (ts : Items) (u : Items) → r.entry_here ts ≡ read_of None u → ts ≡ u
 unfolding r.entry_here
@@ -167,15 +159,29 @@ some_entries_sound : Sound (Maybe Entries) r.some_entries
 unfolding r.some_entries
 some_entries_sound ts es u e = let h = bind_ok (r.entry_here ts) r.entries_from (es, u) e in entries_when h.0 ts h.1 es u h.2 h.3
 
+-- ---- pairs
+
+pair_sound : Sound Pair r.pair
+unfolding r.pair
+pair_sound ts x u e =
+    let a = bind_ok (words.name ts) (λ n. words.keyword key.To >>= λ at. words.name >>= λ m. give (record { old = n; new = m })) (x, u) e in
+    let b = bind_ok (words.keyword key.To a.1) (λ at. words.name >>= λ m. give (record { old = a.0; new = m })) (x, u) a.3 in
+    let c = bind_ok (words.name b.1) (λ m. give (record { old = a.0; new = m })) (x, u) b.3 in
+    give_to (λ y q. Pair y ts q) (record { old = a.0; new = c.0 }) c.1 x u c.3 (pair b.0 a.0 c.0 ts a.1 b.1 c.1 (name_sound ts a.0 a.1 a.2) (keyword_sound key.To a.1 b.0 b.1 b.2) (name_sound b.1 c.0 c.1 c.2))
+
+pub pairs_sound : Sound (Commas Pair) r.pairs
+unfolding r.pairs r.comma_pair
+pairs_sound ts xs u e = commas_sound Pair r.pair pair_sound comma_pair-one ts xs u e
+
 -- ---- tables
 
 leaf_when : (o : Option Lexeme) (ts : Items) (x : AstNode) (u : Items) → head_word ts ≡ o → r.leaf_by o ts ≡ read_of x u → Leaf x ts u
 leaf_when (Some (lex.Name n)) ts x u h e =
-    let a = bind_ok (r.name ts) (λ y. give (node y.at (op.Named y))) (x, u) e in
+    let a = bind_ok (words.name ts) (λ y. give (node y.at (op.Named y))) (x, u) e in
     give_to (λ y q. Leaf y ts q) (node a.0.at (op.Named a.0)) a.1 x u a.3 (named a.0 ts a.1 (name_sound ts a.0 a.1 a.2))
 leaf_when (Some (lex.Key key.Load)) ts x u h e =
-    let a = bind_ok (skip ts) (λ at. r.name >>= λ y. give (node at (op.Load y))) (x, u) e in
-    let b = bind_ok (r.name a.1) (λ y. give (node a.0 (op.Load y))) (x, u) a.3 in
+    let a = bind_ok (skip ts) (λ at. words.name >>= λ y. give (node at (op.Load y))) (x, u) e in
+    let b = bind_ok (words.name a.1) (λ y. give (node a.0 (op.Load y))) (x, u) a.3 in
     give_to (λ y q. Leaf y ts q) (node a.0 (op.Load b.0)) b.1 x u b.3 (load a.0 b.0 ts a.1 b.1 (word_taken (lex.Key key.Load) ts a.0 a.1 h a.2) (name_sound a.1 b.0 b.1 b.2))
 leaf_when (Some (lex.Key key.Table)) ts x u h e =
     let a = bind_ok (skip ts) (λ at. r.table_type >>= λ ty. sign OpenBrace >>= λ from. r.some_entries >>= λ es. sign CloseBrace >>= λ end. give (node at (op.Literal ty es))) (x, u) e in
@@ -187,174 +193,6 @@ leaf_when (Some (lex.Key key.Table)) ts x u h e =
     (literal a.0 c.0 f.0 b.0 d.0 ts a.1 b.1 c.1 d.1 f.1 (word_taken (lex.Key key.Table) ts a.0 a.1 h a.2) (table_type_sound a.1 b.0 b.1 b.2) (sign_sound OpenBrace b.1 c.0 c.1 c.2) (some_entries_sound c.1 d.0 d.1 d.2) (sign_sound CloseBrace d.1 f.0 f.1 f.2))
 leaf_when w ts x u h e = absurd (err_ok {A = AstNode} _ (x, u) e)
 
-leaf_sound : Sound Leaf r.leaf
+pub leaf_sound : Sound Leaf r.leaf
 unfolding r.leaf
 leaf_sound ts x u e = leaf_when (head_word ts) ts x u refl e
-
--- a table with its operator words, which are in the count
-pub record Counts (X : Count → AstNode → Items → Items → Type 0) (limit taken : Count) (x : Counted) (ts u : Items) : Type 0 where
-  pub n : Count
-  pub total : x.1.operators ≡ taken.operators + n.operators
-  pub within : x.1.operators ≤ limit.operators
-  pub stands : X n x.0 ts u
-
-abbrev pub CountSound : (Count → AstNode → Items → Items → Type 0) → Count → (Count → Reader Counted) → Type 0
-CountSound X limit p = (taken : Count) → taken.operators ≤ limit.operators → (ts : Items) (x : Counted) (u : Items) → p taken ts ≡ read_of x u → Counts X limit taken x ts u
-
-abbrev InsideSound : Count → ℕ → Type 0
-InsideSound limit d = (taken : Count) → taken.operators ≤ limit.operators → (ts : Items) (x : Counted) (u : Items) → head_word ts ≡ Some (lex.Sign Open) → r.inside limit d taken ts ≡ read_of x u → Counts (Operand d) limit taken x ts u
-
-operand_when : (limit : Count) (d : ℕ) → InsideSound limit d → (taken : Count) → taken.operators ≤ limit.operators → (o : Option Lexeme) (ts : Items) (x : Counted) (u : Items) → head_word ts ≡ o → r.operand_by (r.inside limit d) taken o ts ≡ read_of x u → Counts (Operand d) limit taken x ts u
-operand_when limit d is taken le (Some (lex.Sign Open)) ts x u h e = is taken le ts x u h e
-operand_when limit d is taken le w ts x u h e =
-    let a = bind_ok (r.leaf ts) (λ y. give (y, taken)) (x, u) e in
-    give_to (λ z q. Counts (Operand d) limit taken z ts q) (a.0, taken) a.1 x u a.3 (record { n = none_counted; total = omega arith; within = le; stands = leaf d a.0 ts a.1 (leaf_sound ts a.0 a.1 a.2) })
-
-operand_from : (limit : Count) (d : ℕ) → InsideSound limit d → CountSound (Operand d) limit (r.operand limit d)
-unfolding r.operand
-operand_from limit d is taken le ts x u e = operand_when limit d is taken le (head_word ts) ts x u refl e
-
-by_word_when : (o : Option Lexeme) (ts : Items) (at : ℕ) (u : Items) → head_word ts ≡ o → r.by_word_by o ts ≡ read_of at u → Word (lex.Key key.By) at ts u
-by_word_when (Some (lex.Key key.By)) ts at u h e = word_taken (lex.Key key.By) ts at u h e
-by_word_when w ts at u h e = absurd (err_ok {A = ℕ} _ (at, u) e)
-
-by_word_sound : (ts : Items) (at : ℕ) (u : Items) → r.by_word ts ≡ read_of at u → Word (lex.Key key.By) at ts u
-unfolding r.by_word
-by_word_sound ts at u e = by_word_when (head_word ts) ts at u refl e
-
-operator_when : (b : Bool) (ts : Items) (at : ℕ) (u : Items) → cond b skip (refuse TooMany) ts ≡ read_of at u → (b ≡ true) × (skip ts ≡ read_of at u)
-operator_when true ts at u e = (refl, e)
-operator_when false ts at u e = absurd (err_ok {A = ℕ} _ (at, u) e)
-
-operator_sound : (limit taken : Count) (w : Lexeme) (ts : Items) (at : ℕ) (u : Items) → head_word ts ≡ Some w → r.operator_word limit taken ts ≡ read_of at u → (taken.operators < limit.operators) × Word w at ts u
-unfolding r.operator_word
-operator_sound limit taken w ts at u h e = let a = operator_when (nat_lt taken.operators limit.operators) ts at u e in (ltb-true taken.operators limit.operators a.0, word_taken w ts at u h a.1)
-
--- how two operands make a table
-abbrev MakesTwo : ℕ → (AstNode → AstNode → AstOp) → Keyword → Type 0
-MakesTwo d what k = (m n : Count) (at : ℕ) (x y : AstNode) (t1 t2 t3 rest : Items) → Word (lex.Key k) at t1 t2 → Operand d m x t2 t3 → Operand d n y t3 rest → Table d (one_operator (together m n)) (node at (what x y)) t1 rest
-
-two_sound : (limit : Count) (d : ℕ) (what : AstNode → AstNode → AstOp) (k : Keyword) → MakesTwo d what k → CountSound (Operand d) limit (r.operand limit d) → (taken : Count) (ts : Items) (x : Counted) (u : Items) → head_word ts ≡ Some (lex.Key k)
-    → (r.operator_word limit taken >>= r.two_by what (r.operand limit d) taken) ts ≡ read_of x u → Counts (Table d) limit taken x ts u
-two_sound limit d what k make os taken ts x u h e =
-    let o = r.operand limit d in
-    let w = bind_ok (r.operator_word limit taken ts) (r.two_by what o taken) (x, u) e in
-    let at = w.0 in
-    let word = operator_sound limit taken (lex.Key k) ts at w.1 h w.2 in
-    let f = bind_ok (o (one_operator taken) w.1) (λ y. o y.1 >>= λ z. give (node at (what y.0 z.0), z.1)) (x, u) w.3 in
-    let a = f.0 in
-    let first = os (one_operator taken) (omega (arith, word.0)) w.1 a f.1 f.2 in
-    let g = bind_ok (o a.1 f.1) (λ z. give (node at (what a.0 z.0), z.1)) (x, u) f.3 in
-    let b = g.0 in
-    let second = os a.1 first.within f.1 b g.1 g.2 in
-    give_to (λ y q. Counts (Table d) limit taken y ts q) (node at (what a.0 b.0), b.1) g.1 x u g.3
-    (record { n = one_operator (together first.n second.n); total = omega (arith, first.total, second.total); within = second.within; stands = make first.n second.n at a.0 b.0 ts w.1 f.1 g.1 word.1 first.stands second.stands })
-
-agg_sound : (limit : Count) (d : ℕ) → CountSound (Operand d) limit (r.operand limit d) → (taken : Count) (ts : Items) (x : Counted) (u : Items) → head_word ts ≡ Some (lex.Key key.Agg)
-    → (r.operator_word limit taken >>= r.agg_by (r.operand limit d) taken) ts ≡ read_of x u → Counts (Table d) limit taken x ts u
-agg_sound limit d os taken ts x u h e =
-    let o = r.operand limit d in
-    let w = bind_ok (r.operator_word limit taken ts) (r.agg_by o taken) (x, u) e in
-    let at = w.0 in
-    let word = operator_sound limit taken (lex.Key key.Agg) ts at w.1 h w.2 in
-    let f = bind_ok (o (one_operator taken) w.1) (λ y. r.by_word >>= λ by. r.some_names >>= λ ns. give (node at (op.Agg y.0 ns), y.1)) (x, u) w.3 in
-    let a = f.0 in
-    let first = os (one_operator taken) (omega (arith, word.0)) w.1 a f.1 f.2 in
-    let g = bind_ok (r.by_word f.1) (λ by. r.some_names >>= λ ns. give (node at (op.Agg a.0 ns), a.1)) (x, u) f.3 in
-    let l = bind_ok (r.some_names g.1) (λ ns. give (node at (op.Agg a.0 ns), a.1)) (x, u) g.3 in
-    give_to (λ y q. Counts (Table d) limit taken y ts q) (node at (op.Agg a.0 l.0), a.1) l.1 x u l.3
-    (record { n = one_operator first.n; total = omega (arith, first.total); within = first.within; stands = agg d first.n at g.0 a.0 l.0 ts w.1 f.1 g.1 l.1 word.1 first.stands (by_word_sound f.1 g.0 g.1 g.2) (some_names_sound g.1 l.0 l.1 l.2) })
-
-lone_sound : (limit : Count) (d : ℕ) → CountSound (Operand d) limit (r.operand limit d) → CountSound (Table d) limit (r.operand limit d)
-lone_sound limit d os taken le ts x u e = let a = os taken le ts x u e in record { n = a.n; total = a.total; within = a.within; stands = operand d a.n x.0 ts u a.stands }
-
-table_when : (limit : Count) (d : ℕ) → CountSound (Operand d) limit (r.operand limit d) → (taken : Count) → taken.operators ≤ limit.operators → (o : Option Lexeme) (ts : Items) (x : Counted) (u : Items) → head_word ts ≡ o → r.table_by limit (r.operand limit d) taken o ts ≡ read_of x u → Counts (Table d) limit taken x ts u
-table_when limit d os taken le (Some (lex.Key key.Join)) ts x u h e = two_sound limit d op.Join key.Join (join d) os taken ts x u h e
-table_when limit d os taken le (Some (lex.Key key.Union)) ts x u h e = two_sound limit d op.Union key.Union (union d) os taken ts x u h e
-table_when limit d os taken le (Some (lex.Key key.Agg)) ts x u h e = agg_sound limit d os taken ts x u h e
-table_when limit d os taken le w ts x u h e = lone_sound limit d os taken le ts x u e
-
-table_from : (limit : Count) (d : ℕ) → InsideSound limit d → CountSound (Table d) limit (r.table limit d)
-unfolding r.table
-table_from limit d is taken le ts x u e = table_when limit d (operand_from limit d is) taken le (head_word ts) ts x u refl e
-
-inside_sound : (limit : Count) (d : ℕ) → InsideSound limit d
-unfolding r.inside r.table r.operand
-inside_sound limit zero taken le ts x u h e = absurd (err_ok {A = Counted} _ (x, u) e)
-inside_sound limit (suc d) taken le ts x u h e =
-    let a = bind_ok (skip ts) (inside_rest limit d taken) (x, u) e in
-    let b = bind_ok (r.table limit d taken a.1) (λ y. sign Close >>= λ end. give y) (x, u) a.3 in
-    let y = b.0 in
-    let c = bind_ok (sign Close b.1) (λ end. give y) (x, u) b.3 in
-    let inner = table_from limit d (inside_sound limit d) taken le a.1 y b.1 b.2 in
-    give_to (λ z q. Counts (Operand (suc d)) limit taken z ts q) y c.1 x u c.3
-    (record { n = inner.n; total = inner.total; within = inner.within; stands = inside d inner.n a.0 c.0 y.0 ts a.1 b.1 c.1 (word_taken (lex.Sign Open) ts a.0 a.1 h a.2) inner.stands (sign_sound Close b.1 c.0 c.1 c.2) })
-
-table_sound : (limit : Count) (d : ℕ) → CountSound (Table d) limit (r.table limit d)
-table_sound limit d = table_from limit d (inside_sound limit d)
-
--- ---- statements
-
-some_order_when : (o : Option Lexeme) (ts : Items) (x : Option AstBy) (u : Items) → head_word ts ≡ o → r.some_order_by o ts ≡ read_of x u → SomeOrder x ts u
-some_order_when (Some (lex.Key key.By)) ts x u h e =
-    let a = bind_ok (skip ts) (λ at. r.some_names >>= λ ns. give (Some (record { at = at; names = ns }))) (x, u) e in
-    let b = bind_ok (r.some_names a.1) (λ ns. give (Some (record { at = a.0; names = ns }))) (x, u) a.3 in
-    give_to (λ y q. SomeOrder y ts q) (Some (record { at = a.0; names = b.0 })) b.1 x u b.3 (order a.0 b.0 ts a.1 b.1 (word_taken (lex.Key key.By) ts a.0 a.1 h a.2) (some_names_sound a.1 b.0 b.1 b.2))
-some_order_when w ts x u h e = give_to (λ y q. SomeOrder y ts q) None ts x u e (no_order ts)
-
-some_order_sound : Sound SomeOrder r.some_order
-unfolding r.some_order
-some_order_sound ts x u e = some_order_when (head_word ts) ts x u refl e
-
-statement_when : (limits : Limits) (o : Option Lexeme) (ts : Items) (x : AstStatement) (u : Items) → head_word ts ≡ o → r.statement_by limits o ts ≡ read_of x u → Statement limits x ts u
-statement_when limits (Some (lex.Name n)) ts x u h e =
-    let a = bind_ok (r.name ts) (assign_rest limits) (x, u) e in
-    let b = bind_ok (sign Is a.1) (λ is. r.table limits.counted limits.levels none_counted >>= λ t. sign Semi >>= λ end. give (st.Assign a.0.at a.0 t.0)) (x, u) a.3 in
-    let c = bind_ok (r.table limits.counted limits.levels none_counted b.1) (λ t. sign Semi >>= λ end. give (st.Assign a.0.at a.0 t.0)) (x, u) b.3 in
-    let t = c.0 in
-    let d = bind_ok (sign Semi c.1) (λ end. give (st.Assign a.0.at a.0 t.0)) (x, u) c.3 in
-    let s = table_sound limits.counted limits.levels none_counted (omega arith) b.1 t c.1 c.2 in
-    give_to (λ y q. Statement limits y ts q) (st.Assign a.0.at a.0 t.0) d.1 x u d.3
-    (assign b.0 d.0 s.n a.0 t.0 ts a.1 b.1 c.1 d.1 (name_sound ts a.0 a.1 a.2) (sign_sound Is a.1 b.0 b.1 b.2) s.stands (omega (arith, s.total, s.within)) (sign_sound Semi c.1 d.0 d.1 d.2))
-statement_when limits (Some (lex.Key key.Print)) ts x u h e =
-    let a = bind_ok (skip ts) print_rest (x, u) e in
-    let b = bind_ok (r.name a.1) (λ n. r.some_order >>= λ by. sign Semi >>= λ end. give (st.Print a.0 n by)) (x, u) a.3 in
-    let c = bind_ok (r.some_order b.1) (λ by. sign Semi >>= λ end. give (st.Print a.0 b.0 by)) (x, u) b.3 in
-    let d = bind_ok (sign Semi c.1) (λ end. give (st.Print a.0 b.0 c.0)) (x, u) c.3 in
-    give_to (λ y q. Statement limits y ts q) (st.Print a.0 b.0 c.0) d.1 x u d.3
-    (print a.0 d.0 b.0 c.0 ts a.1 b.1 c.1 d.1 (word_taken (lex.Key key.Print) ts a.0 a.1 h a.2) (name_sound a.1 b.0 b.1 b.2) (some_order_sound b.1 c.0 c.1 c.2) (sign_sound Semi c.1 d.0 d.1 d.2))
-statement_when limits w ts x u h e = absurd (err_ok {A = AstStatement} _ (x, u) e)
-
-pub statement_sound : (limits : Limits) → Sound (Statement limits) (r.statement limits)
-unfolding r.statement
-statement_sound limits ts x u e = statement_when limits (head_word ts) ts x u refl e
-
-next_some : (limits : Limits) (room : Bool) (o : Option Lexeme) (ts : Items) (x : AstStatement) (u : Items) → r.next_by limits room o ts ≡ read_of (Some x) u → Statement limits x ts u
-next_some limits room None ts x u e = absurd (none_some ts u x e)
-next_some limits true (Some w) ts x u e = statement_sound limits ts x u (read_some (r.statement limits ts) x u e)
-next_some limits false (Some w) ts x u e = absurd (err_ok {A = Option AstStatement} _ (Some x, u) e)
-
-next_statement_sound : (limits : Limits) (room : Bool) (ts : Items) (x : AstStatement) (u : Items) → r.next_statement limits room ts ≡ read_of (Some x) u → Statement limits x ts u
-unfolding r.next_statement
-next_statement_sound limits room ts x u e = next_some limits room (head_word ts) ts x u e
-
-head_none : (ts : Items) → head_word ts ≡ None → ts ≡ []
-head_none [] e = refl
-head_none (t ∷ ts) e = absurd cc
-
-next_none : (limits : Limits) (room : Bool) (o : Option Lexeme) (ts : Items) (u : Items) → head_word ts ≡ o → r.next_by limits room o ts ≡ read_of None u → (ts ≡ []) × (u ≡ [])
-next_none limits room None ts u h e = let n = head_none ts h in (n, sym (rest_is {A = Option AstStatement} None ts None u e) ∙ n)
-next_none limits true (Some w) ts u h e = absurd (some_none (r.statement limits ts) u e)
-next_none limits false (Some w) ts u h e = absurd (err_ok {A = Option AstStatement} _ (None, u) e)
-
-next_statement_none : (limits : Limits) (room : Bool) (ts : Items) (u : Items) → r.next_statement limits room ts ≡ read_of None u → (ts ≡ []) × (u ≡ [])
-unfolding r.next_statement
-next_statement_none limits room ts u e = next_none limits room (head_word ts) ts u refl e
-
-pub statements_sound : (limits : Limits) (ts : Items) (xs : List AstStatement) (u : Items) → r.statements limits [] ts ≡ read_of xs u → Many (Statement limits) xs ts [] × (u ≡ [])
-unfolding r.statements
-statements_sound limits ts xs u e =
-    let l = listed (Statement limits) (next_behind limits) (λ ys. next_statement_sound limits (has_room limits ys)) (next_behind-one limits) [] xs ts u e in
-    let n = next_statement_none limits (has_room limits xs) l.end u l.ended in
-    let all : xs ≡ l.xs = l.all in
-    (rw all (subst (λ (q : Items). Many (Statement limits) l.xs ts q) n.0 l.many), n.1)

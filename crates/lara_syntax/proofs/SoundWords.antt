@@ -7,6 +7,7 @@ use Rattle.lara_semiring.specs.declared.value.ValType.{ValType}
 use Rattle.lara_semiring.specs.declared.value.ValType.TheVariants as val_type_of
 use Rattle.lara_syntax.specs.declared.item.Lexeme.{Lexeme}
 use Rattle.lara_syntax.specs.declared.item.Lexeme.TheVariants as lex
+use Rattle.lara_syntax.specs.declared.item.Keyword.{Keyword}
 use Rattle.lara_syntax.specs.declared.item.Keyword.TheVariants as key
 use Rattle.lara_syntax.specs.declared.item.Sign.{Sign}
 use Rattle.lara_syntax.specs.declared.item.Sign.TheVariants.{Comma}
@@ -16,13 +17,13 @@ use Rattle.lara_syntax.specs.declared.ast.AstLit.{AstLit}
 use Rattle.lara_syntax.specs.declared.ast.AstValue.{AstValue}
 use Rattle.lara_syntax.specs.declared.ast.AstValue.TheVariants as val
 use Rattle.lara_syntax.specs.Steps.{Items, Read, Reader, onward, ◌>>=◌, give, refuse, skip, turns, turns_within, turn, behind, list_from, items_from, head_word}
-use Rattle.lara_syntax.specs.Reading as r
-use Rattle.lara_syntax.specs.Reading.{sign, sign_by, next_as, taken_as, comma_by}
-use Rattle.lara_syntax.specs.Grammar.{Word, word, Mark, Named, literal_word, Lit, key_type_word, KeyTyped, val_type_word, ValTyped, Many, none, more, CommaThen, comma_then, Commas, commas, Maybe, nothing}
+use Rattle.lara_syntax.specs.WordReading as words
+use Rattle.lara_syntax.specs.WordReading.{sign, sign_by, next_as, taken_as, comma_by}
+use Rattle.lara_syntax.specs.WordGrammar.{Word, word, Mark, Key, Named, literal_word, Lit, key_type_word, KeyTyped, val_type_word, ValTyped, Many, none, more, CommaThen, comma_then, Commas, commas, Maybe, nothing}
 use Rattle.lara_syntax.proofs.Turns.{TakesOne, read_of, pair_is, value_is, rest_is, err_ok, none_some, list_step}
 use Rattle.lara_syntax.proofs.Readers.{bind_ok}
-use Rattle.lara_syntax.specs.FixedWords.{same_sign}
-use Rattle.lara_syntax.proofs.WordTextLaws.{same_sign-is}
+use Rattle.lara_syntax.specs.FixedWords.{same_keyword, same_sign}
+use Rattle.lara_syntax.proofs.WordTextLaws.{same_keyword-is, same_sign-is}
 
 -- ---- how a read ends
 
@@ -67,17 +68,27 @@ pub sign_sound : (m : Sign) (ts : Items) (x : ℕ) (u : Items) → sign m ts ≡
 unfolding sign
 sign_sound m ts x u e = sign_when m (head_word ts) ts x u refl e
 
+keyword_when : (k : Keyword) (o : Option Lexeme) (ts : Items) (x : ℕ) (u : Items) → head_word ts ≡ o → words.keyword_by k o ts ≡ read_of x u → Key k x ts u
+keyword_when k (Some (lex.Key j)) ts x u h e =
+    let t = tested (same_keyword k j) ts x u e in
+    word_taken (lex.Key k) ts x u (h ∙ ap (λ (i : Keyword). Some (lex.Key i)) (same_keyword-is k j t.0)) t.1
+keyword_when k w ts x u h e = absurd (err_ok {A = ℕ} _ (x, u) e)
+
+pub keyword_sound : (k : Keyword) (ts : Items) (x : ℕ) (u : Items) → words.keyword k ts ≡ read_of x u → Key k x ts u
+unfolding words.keyword
+keyword_sound k ts x u e = keyword_when k (head_word ts) ts x u refl e
+
 abbrev pub Sound : {A : Type 0} → (A → Items → Items → Type 0) → Reader A → Type 0
 Sound {A = A} X p = (ts : Items) (x : A) (u : Items) → p ts ≡ read_of x u → X x ts u
 
-pub name_when : (o : Option Lexeme) (ts : Items) (x : AstName) (u : Items) → head_word ts ≡ o → r.name_by o ts ≡ read_of x u → Named x ts u
+pub name_when : (o : Option Lexeme) (ts : Items) (x : AstName) (u : Items) → head_word ts ≡ o → words.name_by o ts ≡ read_of x u → Named x ts u
 name_when (Some (lex.Name n)) ts x u h e =
     let a = bind_ok (skip ts) (λ at. give (record { name = n; at = at })) (x, u) e in
     give_to (λ y q. Named y ts q) (record { name = n; at = a.0 }) a.1 x u a.3 (word_taken (lex.Name n) ts a.0 a.1 h a.2)
 name_when w ts x u h e = absurd (err_ok {A = AstName} _ (x, u) e)
 
-pub name_sound : Sound Named r.name
-unfolding r.name
+pub name_sound : Sound Named words.name
+unfolding words.name
 name_sound ts x u e = name_when (head_word ts) ts x u refl e
 
 -- a word that stands for x, and what is made of its place and that
@@ -99,7 +110,7 @@ as_when : {A B : Type 0} (make : ℕ → A → B) (f : Lexeme → Option A) (o :
 as_when {B = B} make f None ts y u h e = absurd (err_ok {A = B} _ (y, u) e)
 as_when make f (Some w) ts y u h e = as_taken make f w (f w) ts y u refl h e
 
-literal_word_is : (w : Lexeme) (v : AstValue) → r.literal_of w ≡ Some v → w ≡ literal_word v
+literal_word_is : (w : Lexeme) (v : AstValue) → words.literal_of w ≡ Some v → w ≡ literal_word v
 literal_word_is (lex.Number n) v e = ap literal_word (some_is (val.Number n) v e)
 literal_word_is (lex.Text content) v e = ap literal_word (some_is (val.Text content) v e)
 literal_word_is (lex.Key key.True) v e = ap literal_word (some_is (val.Flag true) v e)
@@ -108,25 +119,25 @@ literal_word_is (lex.Key key.Inf) v e = ap literal_word (some_is val.Inf v e)
 literal_word_is (lex.Key key.None) v e = ap literal_word (some_is val.None v e)
 literal_word_is w v e = absurd cc
 
-pub lit_sound : Sound Lit r.lit
-unfolding r.lit
+pub lit_sound : Sound Lit words.lit
+unfolding words.lit
 lit_sound ts x u e =
-    let t = as_when r.lit_at r.literal_of (head_word ts) ts x u refl e in
+    let t = as_when words.lit_at words.literal_of (head_word ts) ts x u refl e in
     subst (λ (y : AstLit). Lit y ts u) t.made (subst (λ (w : Lexeme). Word w t.at ts u) (literal_word_is t.lexeme t.x t.stands) t.here)
 
-key_type_word_is : (w : Lexeme) (t : KeyType) → r.word_key_type w ≡ Some t → w ≡ lex.Key (key_type_word t)
+key_type_word_is : (w : Lexeme) (t : KeyType) → words.word_key_type w ≡ Some t → w ≡ lex.Key (key_type_word t)
 key_type_word_is (lex.Key key.Nat) t e = ap (λ (q : KeyType). lex.Key (key_type_word q)) (some_is key_type_of.Nat t e)
 key_type_word_is (lex.Key key.Text) t e = ap (λ (q : KeyType). lex.Key (key_type_word q)) (some_is key_type_of.Text t e)
 key_type_word_is (lex.Key key.Flag) t e = ap (λ (q : KeyType). lex.Key (key_type_word q)) (some_is key_type_of.Flag t e)
 key_type_word_is w t e = absurd cc
 
-pub key_type_sound : Sound KeyTyped r.key_type
-unfolding r.key_type
+pub key_type_sound : Sound KeyTyped words.key_type
+unfolding words.key_type
 key_type_sound ts x u e =
-    let t = as_when r.without_place r.word_key_type (head_word ts) ts x u refl e in
+    let t = as_when words.without_place words.word_key_type (head_word ts) ts x u refl e in
     subst (λ (y : KeyType). KeyTyped y ts u) t.made (t.at, subst (λ (w : Lexeme). Word w t.at ts u) (key_type_word_is t.lexeme t.x t.stands) t.here)
 
-val_type_word_is : (w : Lexeme) (t : ValType) → r.word_val_type w ≡ Some t → w ≡ lex.Key (val_type_word t)
+val_type_word_is : (w : Lexeme) (t : ValType) → words.word_val_type w ≡ Some t → w ≡ lex.Key (val_type_word t)
 val_type_word_is (lex.Key key.Count) t e = ap (λ (q : ValType). lex.Key (val_type_word q)) (some_is val_type_of.Count t e)
 val_type_word_is (lex.Key key.MinPlus) t e = ap (λ (q : ValType). lex.Key (val_type_word q)) (some_is val_type_of.MinPlus t e)
 val_type_word_is (lex.Key key.MaxMin) t e = ap (λ (q : ValType). lex.Key (val_type_word q)) (some_is val_type_of.MaxMin t e)
@@ -135,10 +146,10 @@ val_type_word_is (lex.Key key.Last) t e = ap (λ (q : ValType). lex.Key (val_typ
 val_type_word_is (lex.Key key.Path) t e = ap (λ (q : ValType). lex.Key (val_type_word q)) (some_is val_type_of.Path t e)
 val_type_word_is w t e = absurd cc
 
-pub val_type_sound : Sound ValTyped r.val_type
-unfolding r.val_type
+pub val_type_sound : Sound ValTyped words.val_type
+unfolding words.val_type
 val_type_sound ts x u e =
-    let t = as_when r.without_place r.word_val_type (head_word ts) ts x u refl e in
+    let t = as_when words.without_place words.word_val_type (head_word ts) ts x u refl e in
     subst (λ (y : ValType). ValTyped y ts u) t.made (t.at, subst (λ (w : Lexeme). Word w t.at ts u) (val_type_word_is t.lexeme t.x t.stands) t.here)
 
 -- ---- lists
@@ -182,7 +193,7 @@ comma_when X p sound (Some (lex.Sign Comma)) ts x u h e =
     comma_then a.0 x ts a.1 u (word_taken (lex.Sign Comma) ts a.0 a.1 h a.2) (sound a.1 x u (read_some (p a.1) x u a.3))
 comma_when X p sound w ts x u h e = absurd (none_some ts u x e)
 
-pub comma_sound : {A : Type 0} (X : A → Items → Items → Type 0) (p : Reader A) → Sound X p → (ts : Items) (x : A) (u : Items) → r.comma_then p ts ≡ read_of (Some x) u → CommaThen X x ts u
+pub comma_sound : {A : Type 0} (X : A → Items → Items → Type 0) (p : Reader A) → Sound X p → (ts : Items) (x : A) (u : Items) → words.comma_then p ts ≡ read_of (Some x) u → CommaThen X x ts u
 comma_sound X p sound ts x u e = comma_when X p sound (head_word ts) ts x u refl e
 
 pub comma_none_by : {A : Type 0} (p : Reader A) (o : Option Lexeme) (ts : Items) (u : Items) → comma_by p o ts ≡ read_of None u → ts ≡ u
@@ -190,13 +201,13 @@ comma_none_by {A = A} p (Some (lex.Sign Comma)) ts u e =
     let a = bind_ok (skip ts) (λ at. p >>= λ y. give (Some y)) (None, u) e in absurd (some_none (p a.1) u a.3)
 comma_none_by {A = A} p w ts u e = rest_is {A = Option A} None ts None u e
 
-pub comma_none : {A : Type 0} (p : Reader A) (ts : Items) (u : Items) → r.comma_then p ts ≡ read_of None u → ts ≡ u
+pub comma_none : {A : Type 0} (p : Reader A) (ts : Items) (u : Items) → words.comma_then p ts ≡ read_of None u → ts ≡ u
 comma_none p ts u e = comma_none_by p (head_word ts) ts u e
 
-pub commas_sound : {A : Type 0} (X : A → Items → Items → Type 0) (p : Reader A) → Sound X p → TakesOne (r.comma_then p) → (ts : Items) (xs : List A) (u : Items) → (p >>= λ x. items_from (r.comma_then p) (x ∷ [])) ts ≡ read_of xs u → Commas X xs ts u
+pub commas_sound : {A : Type 0} (X : A → Items → Items → Type 0) (p : Reader A) → Sound X p → TakesOne (words.comma_then p) → (ts : Items) (xs : List A) (u : Items) → (p >>= λ x. items_from (words.comma_then p) (x ∷ [])) ts ≡ read_of xs u → Commas X xs ts u
 commas_sound {A = A} X p sound one ts xs u e =
-    let a = bind_ok (p ts) (λ x. items_from (r.comma_then p) (x ∷ [])) (xs, u) e in
-    let l = listed (CommaThen X) (λ ys. r.comma_then p) (λ ys. comma_sound X p sound) (λ ys. one) (a.0 ∷ []) xs a.1 u a.3 in
+    let a = bind_ok (p ts) (λ x. items_from (words.comma_then p) (x ∷ [])) (xs, u) e in
+    let l = listed (CommaThen X) (λ ys. words.comma_then p) (λ ys. comma_sound X p sound) (λ ys. one) (a.0 ∷ []) xs a.1 u a.3 in
     let end : l.end ≡ u = comma_none p l.end u l.ended in
     subst (λ (q : List A). Commas X q ts u) (sym l.all) (commas a.0 l.xs ts a.1 u (sound ts a.0 a.1 a.2) (subst (λ (q : Items). Many (CommaThen X) l.xs a.1 q) end l.many))
 

@@ -27,6 +27,16 @@ unfolding turns turns_within
 turns-step step sh s ts =
     same_after (step s ts) (give s) (turns_within step (length ts)) (turns step) (λ s' u e. let lt = sh.shorter s ts s' u e in within_any step sh (length ts) (suc (length u)) s' u lt (omega arith))
 
+pub turns-some : {S : Type 0} (step : S → Reader (Option S)) → Shortens step → (s : S) (ts : Items) (s' : S) (u : Items) → step s ts ≡ Ok (Some s', u) → turns step s ts ≡ turns step s' u
+turns-some step sh s ts s' u e = turns-step step sh s ts ∙ rw e refl
+
+pub turns-none : {S : Type 0} (step : S → Reader (Option S)) → Shortens step → (s : S) (ts u : Items) → step s ts ≡ Ok (None, u) → turns step s ts ≡ Ok (s, u)
+turns-none step sh s ts u e = turns-step step sh s ts ∙ rw e refl
+
+pub turns-fail : {S : Type 0} (step : S → Reader (Option S)) → Shortens step → (s : S) (ts : Items) (e : Fault) → Fails e (step s ts) → Fails e (turns step s ts)
+turns-fail step sh s ts faults.Memory h = tt
+turns-fail step sh s ts (faults.Stopped d) h = turns-step step sh s ts ∙ rw h refl
+
 -- ---- lists
 
 -- what an item takes, where it gives one

@@ -1,5 +1,5 @@
 -- What stands before the word at which a reader stops can go on to what it reads.
-use Rattle.std.proofs.Common.{◌≡◌, ◌⊎◌, [], ◌∷◌, ◌++◌, length, Option, Some, inl, inr, refl, sym, ap, ◌∙◌, append_assoc}
+use Rattle.std.proofs.Common.{◌≡◌, ◌⊎◌, [], ◌∷◌, ◌++◌, length, Option, Some, inl, inr, refl, sym, ap, subst, ◌∙◌, append_assoc}
 use Rattle.lara_syntax.specs.declared.item.Lexeme.{Lexeme}
 use Rattle.lara_syntax.specs.declared.fault.Stop.{Stop}
 use Rattle.lara_data.specs.declared.refusal.Kind.{Kind}
@@ -113,6 +113,21 @@ viable_give F x = record {
   value = x;
   says = λ v after. refl;
   goes = λ ts d e. absurd (ok_err x ts d e);
+}
+
+-- what ends with a value, and it ends it
+pub same_end : {A : Type 0} (F : Option Lexeme → Type 0) (x : A) → Starts F F (give x)
+same_end F x ts y v e a = subst (λ q. F (head_word q)) (sym (rest_is x ts y v e)) a
+
+-- the same in front of less
+pub viable_narrow : {A : Type 0} (F G : Option Lexeme → Type 0) → ((w : Option Lexeme) → F w → G w) → (p : Reader A) → IsViable G p → IsViable F p
+viable_narrow F G sub p v = record {
+  stays = λ before u w x e after. v.stays before u w x e (sub (head_word w) after);
+  word = v.word;
+  spelled = v.spelled;
+  value = v.value;
+  says = λ w after. v.says w (sub (head_word w) after);
+  goes = λ ts d e. let g = v.goes ts d e in record { before = g.before; bad = g.bad; parts = g.parts; place = g.place; more = g.more; spelled = g.spelled; x = g.x; on = λ w after. g.on w (sub (head_word w) after) };
 }
 
 -- ---- a choice by the word that is next

@@ -1,16 +1,12 @@
--- The same of a list of items: what stands before the word at which it stops can go on.
-use Rattle.std.proofs.Common.{◌≡◌, ◌<◌, ℕ, zero, suc, List, [], ◌∷◌, ◌++◌, length, Option, Some, None, Ok, Err, refl, sym, ap, subst, ◌∙◌, arith}
+-- What stands before the word at which a list of items stops can go on to a list.
+use Rattle.std.proofs.Common.{◌≡◌, List, [], ◌∷◌, ◌++◌, Option, Some, None, refl, sym, ap, ◌∙◌, arith}
 use Rattle.lara_syntax.specs.declared.item.Lexeme.{Lexeme}
-use Rattle.lara_syntax.specs.declared.fault.Stop.{Stop}
-use Rattle.lara_syntax.specs.declared.fault.Fault.TheVariants as faults
-use Rattle.lara_syntax.specs.Steps.{Items, Read, Reader, ◌>>=◌, give, peek, list_from, head_word}
-use Rattle.lara_syntax.proofs.Turns.{TakesOne, read_of, erred, rest_is, value_is, err_ok, none_some, list-some, list-none, list-fail}
-use Rattle.lara_syntax.proofs.Readers.{IsReader, split, longer, regroup, ok_err, reads_list, stop_is}
-use Rattle.lara_syntax.proofs.Viable.{Goes, goes_behind, IsViable, IsCase, viable_choice}
-
--- what gives an item gives it whatever of G is next
-abbrev pub Keeps : {A : Type 0} → (Option Lexeme → Type 0) → Reader (Option A) → Type 0
-Keeps {A = A} G item = (before u v : Items) (x : A) → item (before ++ u) ≡ read_of (Some x) u → G (head_word v) → item (before ++ v) ≡ read_of (Some x) v
+use Rattle.lara_syntax.specs.Steps.{Items, Reader, ◌>>=◌, give, peek, behind, list_from, head_word}
+use Rattle.lara_syntax.proofs.Turns.{TakesOne, read_of, rest_is, value_is, none_some, list_step, list_shortens}
+use Rattle.lara_syntax.proofs.Readers.{IsReader, reads_bind, reads_give, bind_ok}
+use Rattle.lara_syntax.proofs.SoundWords.{some_is}
+use Rattle.lara_syntax.proofs.Viable.{IsViable, IsCase, same_end, viable_bind, viable_give, viable_choice}
+use Rattle.lara_syntax.proofs.ViableTurns.{Keeps, IsTurn, turns_starts, viable_turns}
 
 -- F: what may follow the list; G: what may follow an item
 pub record IsItem {A : Type 0} (F G : Option Lexeme → Type 0) (item : List A → Reader (Option A)) : Type 0 where
@@ -19,94 +15,57 @@ pub record IsItem {A : Type 0} (F G : Option Lexeme → Type 0) (item : List A �
   pub ends : (ys : List A) (v : Items) → F (head_word v) → item ys v ≡ read_of None v
   pub rests : (ys : List A) (ts u : Items) → item ys ts ≡ read_of None u → F (head_word u) → G (head_word ts)
   pub begins : (ys : List A) (ts : Items) (x : A) (u : Items) → item ys ts ≡ read_of (Some x) u → G (head_word ts)
-  pub wide : (w : Option Lexeme) → F w → G w
   pub keeps : (ys : List A) → Keeps G (item ys)
   pub viable : (ys : List A) → IsViable F (item ys)
 
-starts_by : {A : Type 0} (F G : Option Lexeme → Type 0) (item : List A → Reader (Option A)) → IsItem F G item → (r : Read (Option A)) (acc ys : List A) (ts v : Items) → item acc ts ≡ r → list_from item acc ts ≡ read_of ys v → F (head_word v) → G (head_word ts)
-starts_by F G item ii (Ok (None, m)) acc ys ts v h e after =
-    let same : m ≡ v = rest_is acc m ys v (sym (list-none item ii.one acc ts None m h refl) ∙ e) in
-    ii.rests acc ts m h (subst (λ q. F (head_word q)) (sym same) after)
-starts_by F G item ii (Ok (Some x, m)) acc ys ts v h e after = ii.begins acc ts x m h
-starts_by {A = A} F G item ii (Err d) acc ys ts v h e after = absurd (err_ok {A = List A} d (ys, v) (sym (list-fail item ii.one acc ts (faults.Stopped d) h) ∙ e))
+-- what a turn made of an item
+item_some : {A : Type 0} (ys : List A) (o : Option A) (m : Items) (zs : List A) (u : Items) → read_of (behind ys o) m ≡ read_of (Some zs) u → (x : A) × (o ≡ Some x) × ((ys ++ x ∷ []) ≡ zs) × (m ≡ u)
+item_some ys None m zs u e = absurd (none_some m u zs e)
+item_some ys (Some x) m zs u e = (x, refl, some_is (ys ++ x ∷ []) zs (value_is (Some (ys ++ x ∷ [])) m (Some zs) u e), rest_is (Some (ys ++ x ∷ [])) m (Some zs) u e)
+
+item_none : {A : Type 0} (ys : List A) (o : Option A) (m u : Items) → read_of (behind ys o) m ≡ read_of None u → (o ≡ None) × (m ≡ u)
+item_none {A = A} ys None m u e = (refl, rest_is {A = Option (List A)} None m None u e)
+item_none ys (Some x) m u e = absurd (none_some u m (ys ++ x ∷ []) (sym e))
+
+record Gave {A : Type 0} (item : List A → Reader (Option A)) (ys : List A) (ts : Items) (zs : List A) (u : Items) : Type 0 where
+  pub x : A
+  pub made : (ys ++ x ∷ []) ≡ zs
+  pub read : item ys ts ≡ read_of (Some x) u
+
+gave : {A : Type 0} (item : List A → Reader (Option A)) (ys : List A) (ts : Items) (zs : List A) (u : Items) → list_step item ys ts ≡ read_of (Some zs) u → Gave item ys ts zs u
+gave {A = A} item ys ts zs u e =
+    let a = bind_ok (item ys ts) (λ x. give (behind ys x)) (Some zs, u) e in
+    let b = item_some ys a.0 a.1 zs u a.3 in
+    record { x = b.0; made = b.2; read = a.2 ∙ ap (λ (o : Option A). read_of o a.1) b.1 ∙ ap (λ (q : Items). read_of (Some b.0) q) b.3 }
+
+gave_none : {A : Type 0} (item : List A → Reader (Option A)) (ys : List A) (ts u : Items) → list_step item ys ts ≡ read_of None u → item ys ts ≡ read_of None u
+gave_none {A = A} item ys ts u e =
+    let a = bind_ok (item ys ts) (λ x. give (behind ys x)) (None, u) e in
+    let b = item_none ys a.0 a.1 u a.3 in
+    a.2 ∙ ap (λ (o : Option A). read_of o a.1) b.0 ∙ ap (λ (q : Items). read_of {A = Option A} None q) b.1
+
+list_keeps : {A : Type 0} (F G : Option Lexeme → Type 0) (item : List A → Reader (Option A)) → IsItem F G item → (ys : List A) → Keeps G (list_step item ys)
+list_keeps {A = A} F G item ii ys before u v zs e after =
+    let g = gave item ys (before ++ u) zs u e in
+    rw (ii.keeps ys before u v g.x g.read after) (ap (λ (q : List A). read_of (Some q) v) g.made)
+
+-- a turn is an item behind the others
+list_turn : {A : Type 0} (F G : Option Lexeme → Type 0) (item : List A → Reader (Option A)) → IsItem F G item → IsTurn F G (list_step item)
+list_turn F G item ii = record {
+  shortens = list_shortens item ii.one;
+  reader = λ ys. reads_bind (item ys) (λ x. give (behind ys x)) (ii.reader ys) (λ x. reads_give (behind ys x));
+  ends = λ ys v after. rw (ii.ends ys v after) refl;
+  rests = λ ys ts u e after. ii.rests ys ts u (gave_none item ys ts u e) after;
+  begins = λ ys ts zs u e. let g = gave item ys ts zs u e in ii.begins ys ts g.x u g.read;
+  keeps = list_keeps F G item ii;
+  viable = λ ys. viable_bind F F (item ys) (λ x. give (behind ys x)) (ii.reader ys) (λ x. reads_give (behind ys x)) (ii.viable ys) (λ x. viable_give F (behind ys x)) (λ x. same_end F (behind ys x));
+}
 
 pub loop_starts : {A : Type 0} (F G : Option Lexeme → Type 0) (item : List A → Reader (Option A)) → IsItem F G item → (acc ys : List A) (ts v : Items) → list_from item acc ts ≡ read_of ys v → F (head_word v) → G (head_word ts)
-loop_starts F G item ii acc ys ts v e after = starts_by F G item ii (item acc ts) acc ys ts v refl e after
-
-stays_by : {A : Type 0} (F G : Option Lexeme → Type 0) (item : List A → Reader (Option A)) → IsItem F G item → (n : ℕ)
-    → ((acc ys : List A) (before u v : Items) → length (before ++ u) < n → list_from item acc (before ++ u) ≡ read_of ys u → F (head_word v) → list_from item acc (before ++ v) ≡ read_of ys v)
-    → (r : Read (Option A)) (acc ys : List A) (before u v : Items) → item acc (before ++ u) ≡ r → length (before ++ u) < suc n → list_from item acc (before ++ u) ≡ read_of ys u → F (head_word v) → list_from item acc (before ++ v) ≡ read_of ys v
-stays_by {A = A} F G item ii n next (Ok (None, m)) acc ys before u v h lt e after =
-    let done = sym (list-none item ii.one acc (before ++ u) None m h refl) ∙ e in
-    let same : m ≡ u = rest_is acc m ys u done in
-    let there : item acc (before ++ v) ≡ read_of None v = (ii.viable acc).stays before u v None (h ∙ ap (λ (q : Items). read_of None q) same) after in
-    list-none item ii.one acc (before ++ v) None v there refl ∙ ap (λ (q : List A). read_of q v) (value_is acc m ys u done)
-stays_by F G item ii n next (Ok (Some x, m)) acc ys before u v h lt e after =
-    let a = (ii.reader acc).front (before ++ u) (Some x) m h in
-    let e2 : list_from item (acc ++ x ∷ []) m ≡ read_of ys u = sym (list-some item ii.one acc (before ++ u) x m h) ∙ e in
-    let b = (reads_list item ii.one ii.reader (acc ++ x ∷ [])).front m ys u e2 in
-    let s = split a.0 m before u (sym a.1) (longer m b.0 u b.1) in
-    let shorter = (ii.one acc).shorter (before ++ u) x m h in
-    let k : list_from item (acc ++ x ∷ []) (s.0 ++ v) ≡ read_of ys v = next (acc ++ x ∷ []) ys s.0 u v (omega (arith, shorter, ap length s.1)) (ap (list_from item (acc ++ x ∷ [])) (sym s.1) ∙ e2) after in
-    let g = loop_starts F G item ii (acc ++ x ∷ []) ys (s.0 ++ v) v k after in
-    let first : item acc (a.0 ++ (s.0 ++ v)) ≡ read_of (Some x) (s.0 ++ v) = ii.keeps acc a.0 m (s.0 ++ v) x (ap (item acc) (sym a.1) ∙ h) g in
-    ap (list_from item acc) (regroup before a.0 s.0 v s.2) ∙ list-some item ii.one acc (a.0 ++ (s.0 ++ v)) x (s.0 ++ v) first ∙ k
-stays_by {A = A} F G item ii n next (Err d) acc ys before u v h lt e after = absurd (err_ok {A = List A} d (ys, u) (sym (list-fail item ii.one acc (before ++ u) (faults.Stopped d) h) ∙ e))
-
-loop_stays : {A : Type 0} (F G : Option Lexeme → Type 0) (item : List A → Reader (Option A)) → IsItem F G item → (n : ℕ) (acc ys : List A) (before u v : Items) → length (before ++ u) < n → list_from item acc (before ++ u) ≡ read_of ys u → F (head_word v) → list_from item acc (before ++ v) ≡ read_of ys v
-loop_stays F G item ii zero acc ys before u v lt e after = absurd (omega arith)
-loop_stays F G item ii (suc n) acc ys before u v lt e after = stays_by F G item ii n (loop_stays F G item ii n) (item acc (before ++ u)) acc ys before u v refl lt e after
-
--- what a last turn adds
-abbrev extended : {A : Type 0} → List A → Option A → List A
-extended acc None = acc
-extended acc (Some x) = acc ++ x ∷ []
-
-last_turn : {A : Type 0} (F G : Option Lexeme → Type 0) (item : List A → Reader (Option A)) → IsItem F G item → (o : Option A) (acc : List A) (ts v : Items) → item acc ts ≡ read_of o v → F (head_word v) → list_from item acc ts ≡ read_of (extended acc o) v
-last_turn F G item ii None acc ts v e after = list-none item ii.one acc ts None v e refl
-last_turn F G item ii (Some x) acc ts v e after = list-some item ii.one acc ts x v e ∙ list-none item ii.one (acc ++ x ∷ []) v None v (ii.ends (acc ++ x ∷ []) v after) refl
-
-goes_by : {A : Type 0} (F G : Option Lexeme → Type 0) (item : List A → Reader (Option A)) → IsItem F G item → (n : ℕ)
-    → ((acc : List A) (ts : Items) (d : Stop) → length ts < n → list_from item acc ts ≡ erred d → Goes F (list_from item acc) ts d)
-    → (r : Read (Option A)) (acc : List A) (ts : Items) (d : Stop) → item acc ts ≡ r → length ts < suc n → list_from item acc ts ≡ erred d → Goes F (list_from item acc) ts d
-goes_by F G item ii n next (Ok (None, m)) acc ts d h lt e = absurd (ok_err acc m d (sym (list-none item ii.one acc ts None m h refl) ∙ e))
-goes_by F G item ii n next (Ok (Some x, m)) acc ts d h lt e =
-    let a = (ii.reader acc).front ts (Some x) m h in
-    let shorter = (ii.one acc).shorter ts x m h in
-    let g = next (acc ++ x ∷ []) m d (omega (arith, shorter)) (sym (list-some item ii.one acc ts x m h) ∙ e) in
-    goes_behind F (list_from item acc) (list_from item (acc ++ x ∷ [])) a.0 ts m d a.1 g (λ v after.
-    let rest = g.before ++ (g.more ++ v) in
-    let k : list_from item (acc ++ x ∷ []) rest ≡ read_of g.x v = g.on v after in
-    let w = loop_starts F G item ii (acc ++ x ∷ []) g.x rest v k after in
-    let first : item acc (a.0 ++ rest) ≡ read_of (Some x) rest = ii.keeps acc a.0 m rest x (ap (item acc) (sym a.1) ∙ h) w in
-    list-some item ii.one acc (a.0 ++ rest) x rest first ∙ k)
-goes_by {A = A} F G item ii n next (Err c) acc ts d h lt e =
-    let same : c ≡ d = stop_is {A = List A} c d (sym (list-fail item ii.one acc ts (faults.Stopped c) h) ∙ e) in
-    let g = (ii.viable acc).goes ts d (h ∙ ap (λ (s : Stop). erred s) same) in
-    record {
-      before = g.before;
-      bad = g.bad;
-      parts = g.parts;
-      place = g.place;
-      more = g.more;
-      spelled = g.spelled;
-      x = extended acc g.x;
-      on = λ v after. last_turn F G item ii g.x acc (g.before ++ (g.more ++ v)) v (g.on v after) after;
-    }
-
-loop_goes : {A : Type 0} (F G : Option Lexeme → Type 0) (item : List A → Reader (Option A)) → IsItem F G item → (n : ℕ) (acc : List A) (ts : Items) (d : Stop) → length ts < n → list_from item acc ts ≡ erred d → Goes F (list_from item acc) ts d
-loop_goes F G item ii zero acc ts d lt e = absurd (omega arith)
-loop_goes F G item ii (suc n) acc ts d lt e = goes_by F G item ii n (loop_goes F G item ii n) (item acc ts) acc ts d refl lt e
+loop_starts F G item ii acc ys ts v e after = turns_starts F G (list_step item) (list_turn F G item ii) acc ys ts v e after
 
 pub viable_list : {A : Type 0} (F G : Option Lexeme → Type 0) (item : List A → Reader (Option A)) → IsItem F G item → (acc : List A) → IsViable F (list_from item acc)
-viable_list F G item ii acc = record {
-  stays = λ before u v ys e after. loop_stays F G item ii (suc (length (before ++ u))) acc ys before u v (omega arith) e after;
-  word = [];
-  spelled = tt;
-  value = acc;
-  says = λ v after. list-none item ii.one acc v None v (ii.ends acc v after) refl;
-  goes = λ ts d e. loop_goes F G item ii (suc (length ts)) acc ts d (omega arith) e;
-}
+viable_list F G item ii acc = viable_turns F G (list_step item) (list_turn F G item ii) acc
 
 -- ---- items by the word that is next
 

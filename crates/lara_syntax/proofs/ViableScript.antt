@@ -12,13 +12,16 @@ use Rattle.lara_syntax.specs.declared.ast.AstStatement.TheVariants as st
 use Rattle.lara_syntax.specs.Limits.{Limits, none_counted}
 use Rattle.lara_syntax.specs.Steps.{Items, Reader, ◌>>=◌, give, head_word}
 use Rattle.lara_syntax.specs.Reading as r
-use Rattle.lara_syntax.specs.Reading.{sign}
+use Rattle.lara_syntax.specs.WordReading as words
+use Rattle.lara_syntax.specs.WordReading.{sign}
 use Rattle.lara_syntax.proofs.Turns.{TakesOne, read_of, rest_is, err_ok, none_some}
 use Rattle.lara_syntax.proofs.Readers.{IsReader, reads_bind, reads_give, skip_shortens}
-use Rattle.lara_syntax.proofs.RuleReaders.{sign-reads, name-reads, some_names-reads, table-reads, some_order-reads, statement-reads, statement-one, assign_end, assign_end-reads, assign_rest, assign_rest-reads, print_rest, print_rest-reads, next_statement-one, has_room, next_behind, next_behind-one, next_behind-reads, statements-reads, tree_given, tree_given-reads}
-use Rattle.lara_syntax.proofs.Complete.{AfterNames}
+use Rattle.lara_syntax.proofs.RuleReaders.{sign-reads, name-reads, some_names-reads}
+use Rattle.lara_syntax.proofs.TableReaders.{table-reads, some_order-reads, statement-reads, statement-one, assign_end, assign_end-reads, assign_rest, assign_rest-reads, print_rest, print_rest-reads, next_statement-one, has_room, next_behind, next_behind-one, next_behind-reads, statements-reads, tree_given, tree_given-reads}
+use Rattle.lara_syntax.proofs.Complete.{AfterNames, AfterTable}
 use Rattle.lara_syntax.proofs.Viable.{IsViable, IsCase, case_viable, case_refuse, viable_bind, viable_give, viable_choice}
-use Rattle.lara_syntax.proofs.ViableLoop.{Keeps, IsItem, viable_list, keeps_viable, keeps_none, keeps_choice, viable_item}
+use Rattle.lara_syntax.proofs.ViableLoop.{IsItem, viable_list, keeps_viable, keeps_none, keeps_choice, viable_item}
+use Rattle.lara_syntax.proofs.ViableTurns.{Keeps}
 use Rattle.lara_syntax.proofs.ViableWords.{key_spelled, any, next_is, at_end, token, viable_behind, quiet_takes, sign_viable, sign_starts, name_viable}
 use Rattle.lara_syntax.proofs.ViableTables.{some_names_viable}
 use Rattle.lara_syntax.proofs.ViableOperands.{table_viable}
@@ -59,19 +62,19 @@ assign_rest_viable F limits x =
     let table = r.table limits.counted limits.levels none_counted in
     let reads = table-reads limits.counted limits.levels none_counted in
     viable_bind F any (sign Is) (λ is. table >>= assign_end x) (sign-reads Is) (λ is. reads_bind table (assign_end x) reads (assign_end-reads x)) (sign_viable any Is)
-    (λ is. viable_bind F AfterNames table (assign_end x) reads (assign_end-reads x) (table_viable limits.counted limits.levels none_counted)
+    (λ is. viable_bind F AfterTable table (assign_end x) reads (assign_end-reads x) (table_viable limits.counted limits.levels none_counted)
     (λ t. viable_bind F any (sign Semi) (λ end. give (st.Assign x.at x t.0)) (sign-reads Semi) (λ end. reads_give _) (sign_viable any Semi) (λ end. viable_give F _) (λ end ts y v e a. tt))
-    (λ t ts y v e a. subst AfterNames (sym (sign_starts F Semi (λ end. give (st.Assign x.at x t.0)) ts y v e a)) tt)) (λ is ts y v e a. tt)
+    (λ t ts y v e a. subst AfterTable (sym (sign_starts F Semi (λ end. give (st.Assign x.at x t.0)) ts y v e a)) tt)) (λ is ts y v e a. tt)
 
 pub print_rest_viable : (F : Option Lexeme → Type 0) (at : ℕ) → IsViable F (print_rest at)
 print_rest_viable F at =
-    viable_bind F any r.name _ name-reads (λ x. reads_bind _ _ some_order-reads (λ by. reads_bind _ _ (sign-reads Semi) (λ end. reads_give _))) (name_viable any)
+    viable_bind F any words.name _ name-reads (λ x. reads_bind _ _ some_order-reads (λ by. reads_bind _ _ (sign-reads Semi) (λ end. reads_give _))) (name_viable any)
     (λ x. viable_bind F (next_is Semi) r.some_order _ some_order-reads (λ by. reads_bind _ _ (sign-reads Semi) (λ end. reads_give _)) some_order_viable
     (λ by. viable_bind F any (sign Semi) _ (sign-reads Semi) (λ end. reads_give _) (sign_viable any Semi) (λ end. viable_give F _) (λ end ts y v e a. tt))
     (λ by. sign_starts F Semi _)) (λ x ts y v e a. tt)
 
 statement_cases : (F : Option Lexeme → Type 0) (limits : Limits) (w : Option Lexeme) → IsCase F (r.statement_by limits w)
-statement_cases F limits (Some (lex.Name n)) = case_viable F _ (viable_bind F any r.name (assign_rest limits) name-reads (assign_rest-reads limits) (name_viable any) (assign_rest_viable F limits) (λ x ts y v e a. tt))
+statement_cases F limits (Some (lex.Name n)) = case_viable F _ (viable_bind F any words.name (assign_rest limits) name-reads (assign_rest-reads limits) (name_viable any) (assign_rest_viable F limits) (λ x ts y v e a. tt))
 statement_cases F limits (Some (lex.Key key.Print)) = case_viable F _ (viable_behind F print_rest print_rest-reads (print_rest_viable F))
 statement_cases F limits w = case_refuse F Unexpected
 
@@ -117,7 +120,6 @@ next_item limits = record {
   ends = λ ys v after. no_next limits (has_room limits ys) v after;
   rests = λ ys ts u e after. tt;
   begins = λ ys ts x u e. tt;
-  wide = λ w after. tt;
   keeps = λ ys. next_keeps limits (has_room limits ys);
   viable = λ ys. next_viable limits (has_room limits ys);
 }

@@ -14,54 +14,69 @@ use Rattle.lara_syntax.specs.declared.ast.AstNode.{AstNode}
 use Rattle.lara_syntax.specs.declared.ast.AstOp.TheVariants as op
 use Rattle.lara_syntax.specs.Steps.{Items, Reader, ◌>>=◌, give, skip, items_from, head_word}
 use Rattle.lara_syntax.specs.Reading as r
+use Rattle.lara_syntax.specs.WordReading as words
 use Rattle.lara_syntax.specs.Places.{node}
-use Rattle.lara_syntax.specs.Reading.{sign}
+use Rattle.lara_syntax.specs.WordReading.{sign}
 use Rattle.lara_syntax.proofs.Turns.{TakesOne, read_of, rest_is, none_some}
 use Rattle.lara_syntax.proofs.Readers.{IsReader, reads_bind, reads_give, reads_items, skip_shortens}
-use Rattle.lara_syntax.proofs.RuleReaders.{sign-reads, name-reads, key_type-reads, val_type-reads, lit-reads, comma-reads, comma-one, key_col-reads, some_key_cols-reads, val_col-reads, val_cols-reads, table_type-reads, lits-reads, some_lits-reads, entry-reads, entry_here-reads, semi_entry-reads, semi_entry-one, entries_from-reads, some_entries-reads}
+use Rattle.lara_syntax.proofs.RuleReaders.{sign-reads, name-reads, keyword-reads, pair-reads, key_type-reads, val_type-reads, lit-reads, comma-reads, comma-one, key_col-reads, some_key_cols-reads, val_col-reads, val_cols-reads, table_type-reads, lits-reads, some_lits-reads, entry-reads, entry_here-reads, semi_entry-reads, semi_entry-one, entries_from-reads, some_entries-reads}
 use Rattle.lara_syntax.proofs.Complete.{NoComma, AfterNames, no_names_by, names_comma}
 use Rattle.lara_syntax.proofs.Viable.{IsViable, IsCase, Starts, case_viable, case_refuse, viable_bind, viable_give, viable_choice}
-use Rattle.lara_syntax.proofs.ViableLoop.{Keeps, IsItem, loop_starts, viable_list, keeps_viable, keeps_none, keeps_choice, viable_item}
-use Rattle.lara_syntax.proofs.ViableWords.{name_spelled, a_name, any, next_is, token, viable_behind, Takes, quiet_takes, refuse_takes, sign_takes, sign_viable, sign_starts, name_takes, name_viable, key_type_viable, val_type_viable, lit_takes, case_cond, keeps_cond, lit_viable, first_takes, second_takes, commas_viable, quiet_list, no_list, empty_list}
+use Rattle.lara_syntax.proofs.ViableLoop.{IsItem, loop_starts, viable_list, keeps_viable, keeps_none, keeps_choice, viable_item}
+use Rattle.lara_syntax.proofs.ViableTurns.{Keeps}
+use Rattle.lara_syntax.proofs.ViableWords.{name_spelled, a_name, any, next_is, token, keyword_viable, viable_behind, Takes, quiet_takes, refuse_takes, sign_takes, sign_viable, sign_starts, name_takes, name_viable, key_type_viable, val_type_viable, lit_takes, case_cond, keeps_cond, lit_viable, first_takes, second_takes, commas_viable, quiet_list, no_list, empty_list}
 
 -- ---- names
 
 pub some_names_cases : (w : Option Lexeme) → IsCase AfterNames (r.some_names_by w)
 unfolding r.comma_name
-some_names_cases (Some (lex.Name n)) = case_viable AfterNames _ (commas_viable AfterNames names_comma r.name name-reads (name_viable any))
+some_names_cases (Some (lex.Name n)) = case_viable AfterNames _ (commas_viable AfterNames names_comma words.name name-reads (name_viable any))
 some_names_cases w = case_viable AfterNames (give []) (viable_give AfterNames [])
 
 pub some_names_empty : (w : Option Lexeme) (u : Items) (xs : List AstName) → r.some_names_by w u ≡ read_of xs u → xs ≡ []
 unfolding r.comma_name
-some_names_empty (Some (lex.Name n)) u xs e = no_list (r.name >>= λ x. items_from (r.comma_then r.name) (x ∷ [])) (first_takes r.name _ name_takes (λ x. reads_items (r.comma_then r.name) (comma-one r.name name-reads) (comma-reads r.name name-reads) (x ∷ []))) u xs e
+some_names_empty (Some (lex.Name n)) u xs e = no_list (words.name >>= λ x. items_from (words.comma_then words.name) (x ∷ [])) (first_takes words.name _ name_takes (λ x. reads_items (words.comma_then words.name) (comma-one words.name name-reads) (comma-reads words.name name-reads) (x ∷ []))) u xs e
 some_names_empty w u xs e = empty_list u xs e
 
 pub some_names_viable : IsViable AfterNames r.some_names
 unfolding r.some_names
 some_names_viable = viable_choice AfterNames r.some_names_by some_names_cases (quiet_list AfterNames r.some_names_by (λ u xs e. some_names_empty (head_word u) u xs e) (λ v after. no_names_by (head_word v) v after)) [] tt [] (λ v after. no_names_by (head_word v) v after)
 
+-- ---- pairs
+
+pair_viable : (F : Option Lexeme → Type 0) → IsViable F r.pair
+unfolding r.pair
+pair_viable F =
+    viable_bind F any words.name _ name-reads (λ x. reads_bind _ _ (keyword-reads key.To) (λ at. reads_bind _ _ name-reads (λ y. reads_give _))) (name_viable any)
+    (λ x. viable_bind F any (words.keyword key.To) _ (keyword-reads key.To) (λ at. reads_bind _ _ name-reads (λ y. reads_give _)) (keyword_viable any key.To)
+    (λ at. viable_bind F any words.name _ name-reads (λ y. reads_give _) (name_viable any) (λ y. viable_give F _) (λ y ts z v e a. tt)) (λ at ts y v e a. tt)) (λ x ts y v e a. tt)
+
+pub pairs_viable : (F : Option Lexeme → Type 0) → ((w : Option Lexeme) → F w → NoComma w) → IsViable F r.pairs
+unfolding r.pairs r.comma_pair
+pairs_viable F not_comma = commas_viable F not_comma r.pair pair-reads (pair_viable any)
+
 -- ---- columns
 
 pub key_col_viable : (F : Option Lexeme → Type 0) → IsViable F r.key_col
 unfolding r.key_col
 key_col_viable F =
-    viable_bind F any r.name _ name-reads (λ x. reads_bind _ _ (sign-reads Colon) (λ at. reads_bind _ _ key_type-reads (λ t. reads_give _))) (name_viable any)
+    viable_bind F any words.name _ name-reads (λ x. reads_bind _ _ (sign-reads Colon) (λ at. reads_bind _ _ key_type-reads (λ t. reads_give _))) (name_viable any)
     (λ x. viable_bind F any (sign Colon) _ (sign-reads Colon) (λ at. reads_bind _ _ key_type-reads (λ t. reads_give _)) (sign_viable any Colon)
-    (λ at. viable_bind F any r.key_type _ key_type-reads (λ t. reads_give _) (key_type_viable any) (λ t. viable_give F _) (λ t ts y v e a. tt)) (λ at ts y v e a. tt)) (λ x ts y v e a. tt)
+    (λ at. viable_bind F any words.key_type _ key_type-reads (λ t. reads_give _) (key_type_viable any) (λ t. viable_give F _) (λ t ts y v e a. tt)) (λ at ts y v e a. tt)) (λ x ts y v e a. tt)
 
 pub val_col_viable : (F : Option Lexeme → Type 0) → IsViable F r.val_col
 unfolding r.val_col
 val_col_viable F =
-    viable_bind F any r.name _ name-reads (λ x. reads_bind _ _ (sign-reads Colon) (λ at. reads_bind _ _ val_type-reads (λ t. reads_give _))) (name_viable any)
+    viable_bind F any words.name _ name-reads (λ x. reads_bind _ _ (sign-reads Colon) (λ at. reads_bind _ _ val_type-reads (λ t. reads_give _))) (name_viable any)
     (λ x. viable_bind F any (sign Colon) _ (sign-reads Colon) (λ at. reads_bind _ _ val_type-reads (λ t. reads_give _)) (sign_viable any Colon)
-    (λ at. viable_bind F any r.val_type _ val_type-reads (λ t. reads_give _) (val_type_viable any) (λ t. viable_give F _) (λ t ts y v e a. tt)) (λ at ts y v e a. tt)) (λ x ts y v e a. tt)
+    (λ at. viable_bind F any words.val_type _ val_type-reads (λ t. reads_give _) (val_type_viable any) (λ t. viable_give F _) (λ t ts y v e a. tt)) (λ at ts y v e a. tt)) (λ x ts y v e a. tt)
 
 pub next_no : (m : Sign) → NoComma (Some (lex.Sign m)) → (w : Option Lexeme) → next_is m w → NoComma w
 next_no m not_comma w e = subst NoComma (sym e) not_comma
 
 pub key_col_takes : Takes r.key_col
 unfolding r.key_col
-key_col_takes = first_takes r.name _ name_takes (λ x. reads_bind _ _ (sign-reads Colon) (λ at. reads_bind _ _ key_type-reads (λ t. reads_give _)))
+key_col_takes = first_takes words.name _ name_takes (λ x. reads_bind _ _ (sign-reads Colon) (λ at. reads_bind _ _ key_type-reads (λ t. reads_give _)))
 
 pub some_key_cols_cases : (w : Option Lexeme) → IsCase (next_is Colon) (r.some_key_cols_by w)
 unfolding r.comma_key_col
@@ -70,7 +85,7 @@ some_key_cols_cases w = case_viable (next_is Colon) (give []) (viable_give (next
 
 pub some_key_cols_empty : (w : Option Lexeme) (u : Items) (xs : List AstKeyCol) → r.some_key_cols_by w u ≡ read_of xs u → xs ≡ []
 unfolding r.comma_key_col
-some_key_cols_empty (Some (lex.Name n)) u xs e = no_list (r.key_col >>= λ x. items_from (r.comma_then r.key_col) (x ∷ [])) (first_takes r.key_col _ key_col_takes (λ x. reads_items (r.comma_then r.key_col) (comma-one r.key_col key_col-reads) (comma-reads r.key_col key_col-reads) (x ∷ []))) u xs e
+some_key_cols_empty (Some (lex.Name n)) u xs e = no_list (r.key_col >>= λ x. items_from (words.comma_then r.key_col) (x ∷ [])) (first_takes r.key_col _ key_col_takes (λ x. reads_items (words.comma_then r.key_col) (comma-one r.key_col key_col-reads) (comma-reads r.key_col key_col-reads) (x ∷ []))) u xs e
 some_key_cols_empty w u xs e = empty_list u xs e
 
 pub no_key_cols : (v : Items) → next_is Colon (head_word v) → r.some_key_cols_by (head_word v) v ≡ read_of [] v
@@ -98,14 +113,14 @@ table_type_viable F =
 
 pub lits_viable : (F : Option Lexeme → Type 0) → ((w : Option Lexeme) → F w → NoComma w) → IsViable F r.lits
 unfolding r.lits r.comma_lit
-lits_viable F not_comma = commas_viable F not_comma r.lit lit-reads (lit_viable any)
+lits_viable F not_comma = commas_viable F not_comma words.lit lit-reads (lit_viable any)
 
 pub lits_takes : Takes r.lits
 unfolding r.lits r.comma_lit
-lits_takes = first_takes r.lit _ lit_takes (λ x. reads_items (r.comma_then r.lit) (comma-one r.lit lit-reads) (comma-reads r.lit lit-reads) (x ∷ []))
+lits_takes = first_takes words.lit _ lit_takes (λ x. reads_items (words.comma_then words.lit) (comma-one words.lit lit-reads) (comma-reads words.lit lit-reads) (x ∷ []))
 
 pub some_lits_cases : (w : Option Lexeme) → IsCase (next_is Colon) (r.some_lits_by w)
-some_lits_cases w = case_cond (next_is Colon) (r.is_literal w) r.lits (give []) (case_viable (next_is Colon) _ (lits_viable (next_is Colon) (next_no Colon tt))) (case_viable (next_is Colon) (give []) (viable_give (next_is Colon) []))
+some_lits_cases w = case_cond (next_is Colon) (words.is_literal w) r.lits (give []) (case_viable (next_is Colon) _ (lits_viable (next_is Colon) (next_no Colon tt))) (case_viable (next_is Colon) (give []) (viable_give (next_is Colon) []))
 
 pub some_lits_empty : (here : Bool) (u : Items) (xs : List AstLit) → cond here r.lits (give []) u ≡ read_of xs u → xs ≡ []
 some_lits_empty true u xs e = no_list r.lits lits_takes u xs e
@@ -116,7 +131,7 @@ no_lits v after = ap (λ (w : Option Lexeme). r.some_lits_by w v) after
 
 pub some_lits_viable : IsViable (next_is Colon) r.some_lits
 unfolding r.some_lits
-some_lits_viable = viable_choice (next_is Colon) r.some_lits_by some_lits_cases (quiet_list (next_is Colon) r.some_lits_by (λ u xs e. some_lits_empty (r.is_literal (head_word u)) u xs e) no_lits) [] tt [] no_lits
+some_lits_viable = viable_choice (next_is Colon) r.some_lits_by some_lits_cases (quiet_list (next_is Colon) r.some_lits_by (λ u xs e. some_lits_empty (words.is_literal (head_word u)) u xs e) no_lits) [] tt [] no_lits
 
 pub entry_viable : (F : Option Lexeme → Type 0) → ((w : Option Lexeme) → F w → NoComma w) → IsViable F r.entry
 unfolding r.entry
@@ -150,7 +165,7 @@ an_entry_viable F not_comma = viable_bind F F r.entry (λ x. give (Some x)) entr
 
 pub entry_here_cases : (F : Option Lexeme → Type 0) → ((w : Option Lexeme) → F w → NoComma w) → (w : Option Lexeme) → IsCase F (r.entry_here_by w)
 entry_here_cases F not_comma (Some (lex.Sign Colon)) = case_viable F _ (an_entry_viable F not_comma)
-entry_here_cases F not_comma w = case_cond F (r.is_literal w) r.an_entry (give None) (case_viable F _ (an_entry_viable F not_comma)) (case_viable F (give None) (viable_give F None))
+entry_here_cases F not_comma w = case_cond F (words.is_literal w) r.an_entry (give None) (case_viable F _ (an_entry_viable F not_comma)) (case_viable F (give None) (viable_give F None))
 
 pub an_entry_takes : Takes r.an_entry
 unfolding r.entry
@@ -162,7 +177,7 @@ entry_at_one false ts x u e = absurd (none_some ts u x e)
 
 pub entry_here_by_one : (w : Option Lexeme) (ts : Items) (x : AstEntry) (u : Items) → r.entry_here_by w ts ≡ read_of (Some x) u → length u < length ts
 entry_here_by_one (Some (lex.Sign Colon)) ts x u e = an_entry_takes ts (Some x) u e
-entry_here_by_one w ts x u e = entry_at_one (r.is_literal w) ts x u e
+entry_here_by_one w ts x u e = entry_at_one (words.is_literal w) ts x u e
 
 pub entry_here-one : TakesOne r.entry_here
 unfolding r.entry_here
@@ -174,7 +189,7 @@ entry_here_viable F sub = viable_item F r.entry_here_by entry_here-one (λ v aft
 
 pub entry_here_keeps_by : (w : Option Lexeme) → Keeps AfterEntry (r.entry_here_by w)
 entry_here_keeps_by (Some (lex.Sign Colon)) = keeps_viable AfterEntry _ (an_entry_viable AfterEntry entry_no)
-entry_here_keeps_by w = keeps_cond AfterEntry (r.is_literal w) r.an_entry (give None) (keeps_viable AfterEntry _ (an_entry_viable AfterEntry entry_no)) (keeps_none AfterEntry)
+entry_here_keeps_by w = keeps_cond AfterEntry (words.is_literal w) r.an_entry (give None) (keeps_viable AfterEntry _ (an_entry_viable AfterEntry entry_no)) (keeps_none AfterEntry)
 
 pub entry_here_keeps : Keeps AfterEntry r.entry_here
 unfolding r.entry_here
@@ -213,7 +228,6 @@ semi_item = record {
   ends = λ ys v after. no_semi_entry v after;
   rests = λ ys ts u e after. semi_rests_by (head_word ts) ts u e after refl;
   begins = λ ys ts x u e. semi_begins_by (head_word ts) ts x u e;
-  wide = close_after;
   keeps = λ ys. keeps_choice AfterEntry r.semi_entry_by semi_entry-one semi_keeps_by;
   viable = λ ys. viable_item (next_is CloseBrace) r.semi_entry_by semi_entry-one no_semi_entry semi_cases;
 }
@@ -233,13 +247,13 @@ some_entries_viable = viable_bind (next_is CloseBrace) AfterEntry r.entry_here r
 -- ---- leaves
 
 abbrev pub load_rest : ℕ → Reader AstNode
-load_rest at = r.name >>= λ x. give (node at (op.Load x))
+load_rest at = words.name >>= λ x. give (node at (op.Load x))
 
 pub load_rest-reads : (at : ℕ) → IsReader (load_rest at)
-load_rest-reads at = reads_bind r.name (λ x. give (node at (op.Load x))) name-reads (λ x. reads_give _)
+load_rest-reads at = reads_bind words.name (λ x. give (node at (op.Load x))) name-reads (λ x. reads_give _)
 
 pub load_rest_viable : (F : Option Lexeme → Type 0) (at : ℕ) → IsViable F (load_rest at)
-load_rest_viable F at = viable_bind F any r.name (λ x. give (node at (op.Load x))) name-reads (λ x. reads_give _) (name_viable any) (λ x. viable_give F _) (λ x ts y v e a. tt)
+load_rest_viable F at = viable_bind F any words.name (λ x. give (node at (op.Load x))) name-reads (λ x. reads_give _) (name_viable any) (λ x. viable_give F _) (λ x ts y v e a. tt)
 
 -- a literal behind its first word
 abbrev pub literal_rest : ℕ → Reader AstNode
@@ -257,13 +271,13 @@ literal_rest_viable F at =
     (λ es. sign_starts F CloseBrace _)) (λ from ts y v e a. tt)) (λ ty ts y v e a. tt)
 
 pub leaf_cases : (F : Option Lexeme → Type 0) (w : Option Lexeme) → IsCase F (r.leaf_by w)
-leaf_cases F (Some (lex.Name n)) = case_viable F _ (viable_bind F any r.name (λ x. give (node x.at (op.Named x))) name-reads (λ x. reads_give _) (name_viable any) (λ x. viable_give F _) (λ x ts y v e a. tt))
+leaf_cases F (Some (lex.Name n)) = case_viable F _ (viable_bind F any words.name (λ x. give (node x.at (op.Named x))) name-reads (λ x. reads_give _) (name_viable any) (λ x. viable_give F _) (λ x ts y v e a. tt))
 leaf_cases F (Some (lex.Key key.Load)) = case_viable F _ (viable_behind F load_rest load_rest-reads (load_rest_viable F))
 leaf_cases F (Some (lex.Key key.Table)) = case_viable F _ (viable_behind F literal_rest literal_rest-reads (literal_rest_viable F))
 leaf_cases F w = case_refuse F Unexpected
 
 pub leaf_by_takes : (w : Option Lexeme) → Takes (r.leaf_by w)
-leaf_by_takes (Some (lex.Name n)) ts x u e = first_takes r.name (λ y. give (node y.at (op.Named y))) name_takes (λ y. reads_give _) ts x u e
+leaf_by_takes (Some (lex.Name n)) ts x u e = first_takes words.name (λ y. give (node y.at (op.Named y))) name_takes (λ y. reads_give _) ts x u e
 leaf_by_takes (Some (lex.Key key.Load)) ts x u e = skip_shortens load_rest load_rest-reads ts x u e
 leaf_by_takes (Some (lex.Key key.Table)) ts x u e = skip_shortens literal_rest literal_rest-reads ts x u e
 leaf_by_takes w ts x u e = refuse_takes ts x u e
@@ -277,5 +291,5 @@ abbrev pub a_node : AstNode
 a_node = node 0 (op.Named (record { name = a_name; at = 0 }))
 
 pub leaf_viable : (F : Option Lexeme → Type 0) → IsViable F r.leaf
-unfolding r.leaf r.name
+unfolding r.leaf words.name
 leaf_viable F = viable_choice F r.leaf_by (leaf_cases F) (quiet_takes F r.leaf leaf_takes) (token (lex.Name a_name) ∷ []) (name_spelled, tt) a_node (λ v after. refl)

@@ -2,15 +2,20 @@
 use Rattle.std.proofs.Common.{inl, inr, ◌⊎◌, ◌≡◌, ℕ, ◌<◌, length, Ok, Err, refl, sym, ap, subst, arith}
 use Rattle.lara_data.specs.declared.refusal.Kind.TheVariants.{Unexpected, TooMany}
 use Rattle.lara_syntax.specs.declared.fault.Stop.{Stop}
+use Rattle.lara_syntax.specs.declared.count.Count.{Count}
 use Rattle.lara_syntax.specs.Limits.{Limits}
 use Rattle.lara_syntax.specs.Steps.{Items, Read, Reader, onward, ◌>>=◌, give}
 use Rattle.lara_syntax.proofs.Turns.{erred}
 use Rattle.lara_syntax.proofs.Readers.{IsReader, longer}
 use Rattle.lara_syntax.proofs.PlainRules.{Plain}
 
+-- less of each that is counted
+abbrev pub LessCount : Count → Count → Type 0
+LessCount m n = (m.operators < n.operators) × (m.signs < n.signs)
+
 -- less of each
 abbrev pub Less : Limits → Limits → Type 0
-Less a b = (a.statements < b.statements) × (a.levels < b.levels) × (a.counted.operators < b.counted.operators)
+Less a b = (a.statements < b.statements) × (a.levels < b.levels) × LessCount a.counted b.counted
 
 -- a value of P, or a word that is not expected
 abbrev pub Fits : {A : Type 0} → (A → Type 0) → Read A → Type 0

@@ -11,7 +11,7 @@ use Rattle.lara_syntax.specs.declared.item.Keyword.TheVariants as key
 use Rattle.lara_syntax.specs.declared.item.Sign.{Sign}
 use Rattle.lara_syntax.specs.declared.item.Sign.TheVariants as sign
 use Rattle.lara_syntax.specs.ByteClasses.{is_space}
-use Rattle.lara_syntax.specs.FixedWords.{keyword_text, sign_text, all_keywords, all_signs, word_of, keyword_of, sign_of, same_sign}
+use Rattle.lara_syntax.specs.FixedWords.{keyword_text, sign_text, all_keywords, all_signs, word_of, keyword_of, sign_of, same_keyword, same_sign}
 
 pub both : (a b : Bool) → (a && b) ≡ true → (a ≡ true) × (b ≡ true)
 both true true e = (refl, refl)
@@ -77,6 +77,12 @@ pub keyword_of-text : (k : Keyword) → keyword_of (keyword_text k) ≡ Some k
 unfolding keyword_of
 keyword_of-text key.Agg = refl
 keyword_of-text k = refl
+
+pub same_keyword-is : (m k : Keyword) → same_keyword m k ≡ true → k ≡ m
+same_keyword-is m k e = some_is k m (sym (keyword_of-text k) ∙ ap keyword_of (sym ((bytes_eq-Decides (keyword_text m) (keyword_text k)).0 e)) ∙ keyword_of-text m)
+
+pub same_keyword-refl : (m : Keyword) → same_keyword m m ≡ true
+same_keyword-refl m = (bytes_eq-Decides (keyword_text m) (keyword_text m)).1 refl
 
 -- ---- signs
 

@@ -15,6 +15,7 @@ use Rattle.lara_syntax.specs.Limits.{most, none_counted}
 use Rattle.lara_syntax.specs.Places.{node}
 use Rattle.lara_syntax.specs.Steps.{Items, turns, turns_within}
 use Rattle.lara_syntax.specs.Reading as r
+use Rattle.lara_syntax.specs.WordReading as words
 use Rattle.lara_syntax.proofs.Turns.{read_of, erred}
 
 -- a word of no place
@@ -26,11 +27,11 @@ a = record { name = 97 ∷ []; at = 0 }
 
 -- ---- operators
 
-last_operator : r.operator_word most.counted (record { operators = 63 }) (word (lex.Key key.Join) ∷ []) ≡ read_of 0 []
+last_operator : r.operator_word most.counted (record { operators = 63; signs = 1024 }) (word (lex.Key key.Join) ∷ []) ≡ read_of 0 []
 unfolding r.operator_word
 last_operator = refl
 
-operator_too_many : r.operator_word most.counted (record { operators = 64 }) (word (lex.Key key.Join) ∷ []) ≡ erred (record { left = 1; kind = TooMany })
+operator_too_many : r.operator_word most.counted (record { operators = 64; signs = 0 }) (word (lex.Key key.Join) ∷ []) ≡ erred (record { left = 1; kind = TooMany })
 unfolding r.operator_word
 operator_too_many = refl
 
@@ -46,11 +47,11 @@ closed zero ts = ts
 closed (suc n) ts = word (lex.Sign sign.Close) ∷ closed n ts
 
 last_level : r.operand most.counted most.levels none_counted (opened 64 (word (lex.Name (97 ∷ [])) ∷ closed 64 [])) ≡ read_of (node 0 (op.Named a), none_counted) []
-unfolding r.operand r.inside r.leaf r.name r.sign
+unfolding r.operand r.inside r.leaf words.name words.sign
 last_level = refl
 
 level_too_many : r.operand most.counted most.levels none_counted (opened 65 (word (lex.Name (97 ∷ [])) ∷ closed 65 [])) ≡ erred (record { left = 67; kind = TooMany })
-unfolding r.operand r.inside r.leaf r.name r.sign
+unfolding r.operand r.inside r.leaf words.name words.sign
 level_too_many = refl
 
 -- ---- statements
@@ -62,7 +63,7 @@ prints (suc n) = st.Print 0 a None ∷ prints n
 
 -- behind 255 the next may begin, and the end comes too early
 last_statement : r.statements most (prints 255) (word (lex.Key key.Print) ∷ []) ≡ erred (record { left = 0; kind = Unexpected })
-unfolding r.statements r.next_statement r.statement r.name turns turns_within
+unfolding r.statements r.next_statement r.statement words.name turns turns_within
 last_statement = refl
 
 -- behind 256 it may not

@@ -91,6 +91,10 @@ keyword_of text = word_of keyword_text all_keywords text
 unfoldable pub sign_of : List ℕ → Option Sign
 sign_of text = word_of sign_text all_signs text
 
+-- whether two keywords are one, which their texts tell
+abbrev pub same_keyword : Keyword → Keyword → Bool
+same_keyword a b = bytes_eq (keyword_text a) (keyword_text b)
+
 -- whether two signs are one, which their texts tell
 abbrev pub same_sign : Sign → Sign → Bool
 same_sign a b = bytes_eq (sign_text a) (sign_text b)

@@ -1,14 +1,8 @@
 -- The grammar: which words stand for which tree. `X x ts rest` says that ts is x, and behind it rest.
-use Rattle.std.specs.Prelude.{◌≤◌, ℕ, suc, true, false, List, [], ◌∷◌, length, Option, Some, None}
+use Rattle.std.specs.Prelude.{◌≤◌, ℕ, suc, List, [], ◌∷◌, length, Option, Some, None}
 use Rattle.lara_key.specs.declared.key.KeyType.{KeyType}
-use Rattle.lara_key.specs.declared.key.KeyType.TheVariants as key_type_of
 use Rattle.lara_semiring.specs.declared.value.ValType.{ValType}
-use Rattle.lara_semiring.specs.declared.value.ValType.TheVariants as val_type_of
-use Rattle.lara_syntax.specs.declared.item.Lexeme.{Lexeme}
-use Rattle.lara_syntax.specs.declared.item.Lexeme.TheVariants as lex
-use Rattle.lara_syntax.specs.declared.item.Keyword.{Keyword}
 use Rattle.lara_syntax.specs.declared.item.Keyword.TheVariants as key
-use Rattle.lara_syntax.specs.declared.item.Sign.{Sign}
 use Rattle.lara_syntax.specs.declared.item.Sign.TheVariants.{Is, Semi, Comma, Colon, OpenBracket, CloseBracket, OpenBrace, CloseBrace, Open, Close}
 use Rattle.lara_syntax.specs.declared.count.Count.{Count}
 use Rattle.lara_syntax.specs.declared.ast.Ast.{Ast}
@@ -18,90 +12,20 @@ use Rattle.lara_syntax.specs.declared.ast.AstKeyCol.{AstKeyCol}
 use Rattle.lara_syntax.specs.declared.ast.AstValCol.{AstValCol}
 use Rattle.lara_syntax.specs.AstTypes.{AstColumns}
 use Rattle.lara_syntax.specs.declared.ast.AstLit.{AstLit}
-use Rattle.lara_syntax.specs.declared.ast.AstValue.{AstValue}
-use Rattle.lara_syntax.specs.declared.ast.AstValue.TheVariants as val
 use Rattle.lara_syntax.specs.declared.ast.AstEntry.{AstEntry}
 use Rattle.lara_syntax.specs.declared.ast.AstNode.{AstNode}
 use Rattle.lara_syntax.specs.declared.ast.AstOp.TheVariants as op
+use Rattle.lara_syntax.specs.declared.ast_expr.AstExpr.{AstExpr}
+use Rattle.lara_syntax.specs.declared.ast_part.AstDef.{AstDef}
+use Rattle.lara_syntax.specs.declared.ast_part.AstKeyDef.{AstKeyDef}
+use Rattle.lara_syntax.specs.declared.ast_part.AstPair.{AstPair}
 use Rattle.lara_syntax.specs.declared.ast.AstStatement.{AstStatement}
 use Rattle.lara_syntax.specs.declared.ast.AstStatement.TheVariants as st
 use Rattle.lara_syntax.specs.Limits.{Limits, none_counted, one_operator, together, IsWithin}
 use Rattle.lara_syntax.specs.Steps.{Items}
 use Rattle.lara_syntax.specs.Places.{node, first_at}
-
--- ---- one word
-
--- the word w, at a place
-pub data Word (w : Lexeme) : ℕ → Items → Items → Type 0 where
-  word : (at len : ℕ) (rest : Items) → Word w at (record { at = at; len = len; lexeme = w } ∷ rest) rest
-
--- the sign m, at a place
-abbrev pub Mark : Sign → ℕ → Items → Items → Type 0
-Mark m = Word (lex.Sign m)
-
--- the keyword k, at a place
-abbrev pub Key : Keyword → ℕ → Items → Items → Type 0
-Key k = Word (lex.Key k)
-
--- NAME
-abbrev pub Named : AstName → Items → Items → Type 0
-Named x = Word (lex.Name x.name) x.at
-
--- how a value is written, as one word
-abbrev pub literal_word : AstValue → Lexeme
-literal_word (val.Number n) = lex.Number n
-literal_word (val.Text content) = lex.Text content
-literal_word (val.Flag true) = lex.Key key.True
-literal_word (val.Flag false) = lex.Key key.False
-literal_word val.Inf = lex.Key key.Inf
-literal_word val.None = lex.Key key.None
-
--- lit = NUMBER | TEXT | "true" | "false" | "inf" | "none"
-abbrev pub Lit : AstLit → Items → Items → Type 0
-Lit x = Word (literal_word x.value) x.at
-
--- the keyword of a type of key columns
-abbrev pub key_type_word : KeyType → Keyword
-key_type_word key_type_of.Nat = key.Nat
-key_type_word key_type_of.Text = key.Text
-key_type_word key_type_of.Flag = key.Flag
-
--- keytype = "nat" | "text" | "flag"
-abbrev pub KeyTyped : KeyType → Items → Items → Type 0
-KeyTyped t ts rest = (at : ℕ) × Key (key_type_word t) at ts rest
-
--- the keyword of a type of value columns
-abbrev pub val_type_word : ValType → Keyword
-val_type_word val_type_of.Count = key.Count
-val_type_word val_type_of.MinPlus = key.MinPlus
-val_type_word val_type_of.MaxMin = key.MaxMin
-val_type_word val_type_of.Flag = key.Flag
-val_type_word val_type_of.Last = key.Last
-val_type_word val_type_of.Path = key.Path
-
--- valtype = "count" | "minplus" | "maxmin" | "flag" | "last" | "path"
-abbrev pub ValTyped : ValType → Items → Items → Type 0
-ValTyped t ts rest = (at : ℕ) × Key (val_type_word t) at ts rest
-
--- ---- lists
-
--- { X }
-pub data Many {A : Type 0} (X : A → Items → Items → Type 0) : List A → Items → Items → Type 0 where
-  none : (rest : Items) → Many X [] rest rest
-  more : (x : A) (xs : List A) (ts us rest : Items) → X x ts us → Many X xs us rest → Many X (x ∷ xs) ts rest
-
--- "," X
-pub data CommaThen {A : Type 0} (X : A → Items → Items → Type 0) : A → Items → Items → Type 0 where
-  comma_then : (at : ℕ) (x : A) (ts us rest : Items) → Mark Comma at ts us → X x us rest → CommaThen X x ts rest
-
--- X { "," X }
-pub data Commas {A : Type 0} (X : A → Items → Items → Type 0) : List A → Items → Items → Type 0 where
-  commas : (x : A) (xs : List A) (ts us rest : Items) → X x ts us → Many (CommaThen X) xs us rest → Commas X (x ∷ xs) ts rest
-
--- [ X ]
-pub data Maybe {A : Type 0} (X : List A → Items → Items → Type 0) : List A → Items → Items → Type 0 where
-  nothing : (rest : Items) → Maybe X [] rest rest
-  just : (xs : List A) (ts rest : Items) → X xs ts rest → Maybe X xs ts rest
+use Rattle.lara_syntax.specs.ExprGrammar.{Expr}
+use Rattle.lara_syntax.specs.WordGrammar.{Mark, Key, Named, Lit, KeyTyped, ValTyped, Many, Commas, Maybe}
 
 -- ---- columns
 
@@ -144,6 +68,41 @@ pub data SomeSemi : Items → Items → Type 0 where
 pub data Entries : List AstEntry → Items → Items → Type 0 where
   entries : (e : AstEntry) (es : List AstEntry) (ts us vs rest : Items) → Entry e ts us → Many SemiEntry es us vs → SomeSemi vs rest → Entries (e ∷ es) ts rest
 
+-- ---- pairs of names
+
+-- pair = NAME "to" NAME
+pub data Pair : AstPair → Items → Items → Type 0 where
+  pair : (at : ℕ) (x y : AstName) (ts us vs rest : Items)
+      → Named x ts us → Key key.To at us vs → Named y vs rest
+      → Pair (record { old = x; new = y }) ts rest
+
+-- ---- definitions, with the levels that may be opened in them and what they count
+
+-- def = val_col "=" expr
+pub data Def (d : ℕ) : Count → AstDef → Items → Items → Type 0 where
+  def : (n : Count) (at : ℕ) (c : AstValCol) (e : AstExpr) (ts us vs rest : Items)
+      → ValCol c ts us → Mark Is at us vs → Expr d n e vs rest
+      → Def d n (record { col = c; expr = e }) ts rest
+
+-- { "," def }
+pub data MoreDefs (d : ℕ) : Count → List AstDef → Items → Items → Type 0 where
+  no_defs : (rest : Items) → MoreDefs d none_counted [] rest rest
+  more_defs : (m n : Count) (at : ℕ) (x : AstDef) (xs : List AstDef) (ts us vs rest : Items)
+      → Mark Comma at ts us → Def d m x us vs → MoreDefs d n xs vs rest
+      → MoreDefs d (together m n) (x ∷ xs) ts rest
+
+-- defs = def { "," def }
+pub data Defs (d : ℕ) : Count → List AstDef → Items → Items → Type 0 where
+  defs : (m n : Count) (x : AstDef) (xs : List AstDef) (ts us rest : Items)
+      → Def d m x ts us → MoreDefs d n xs us rest
+      → Defs d (together m n) (x ∷ xs) ts rest
+
+-- key_def = key_col "=" expr
+pub data KeyDef (d : ℕ) : Count → AstKeyDef → Items → Items → Type 0 where
+  key_def : (n : Count) (at : ℕ) (c : AstKeyCol) (e : AstExpr) (ts us vs rest : Items)
+      → KeyCol c ts us → Mark Is at us vs → Expr d n e vs rest
+      → KeyDef d n (record { col = c; expr = e }) ts rest
+
 -- ---- tables
 
 -- a table that stands on no other: leaf = NAME | "load" NAME | "table" type "{" [ entries ] "}"
@@ -154,7 +113,7 @@ pub data Leaf : AstNode → Items → Items → Type 0 where
       → Key key.Table at t1 t2 → TypeOf ty t2 t3 → Mark OpenBrace a t3 t4 → Maybe Entries es t4 t5 → Mark CloseBrace b t5 rest
       → Leaf (node at (op.Literal ty es)) t1 rest
 
--- A number: how many levels of ( may be opened. A count: the operator words.
+-- A number: how many levels may be opened. A count: what they have of what is counted.
 mutual
   -- operand = leaf | "(" table ")"
   pub data Operand : ℕ → Count → AstNode → Items → Items → Type 0 where
@@ -163,7 +122,9 @@ mutual
         → Mark Open a t1 t2 → Table d n x t2 t3 → Mark Close b t3 rest
         → Operand (suc d) n x t1 rest
 
-  -- table = "join" operand operand | "union" operand operand | "agg" operand "by" [ names ] | operand
+  -- table = "join" operand operand | "union" operand operand | "agg" operand "by" [ names ]
+  --       | "map" operand "to" defs | "filter" operand "where" expr | "promote" operand "to" key_def
+  --       | "rename" operand pair { "," pair } | operand
   pub data Table : ℕ → Count → AstNode → Items → Items → Type 0 where
     join : (d : ℕ) (m n : Count) (at : ℕ) (x y : AstNode) (t1 t2 t3 rest : Items)
         → Key key.Join at t1 t2 → Operand d m x t2 t3 → Operand d n y t3 rest
@@ -174,6 +135,18 @@ mutual
     agg : (d : ℕ) (n : Count) (at by : ℕ) (x : AstNode) (ns : List AstName) (t1 t2 t3 t4 rest : Items)
         → Key key.Agg at t1 t2 → Operand d n x t2 t3 → Key key.By by t3 t4 → Maybe (Commas Named) ns t4 rest
         → Table d (one_operator n) (node at (op.Agg x ns)) t1 rest
+    map : (d : ℕ) (m n : Count) (at to : ℕ) (x : AstNode) (ds : List AstDef) (t1 t2 t3 t4 rest : Items)
+        → Key key.Map at t1 t2 → Operand d m x t2 t3 → Key key.To to t3 t4 → Defs d n ds t4 rest
+        → Table d (one_operator (together m n)) (node at (op.Map x ds)) t1 rest
+    filter : (d : ℕ) (m n : Count) (at wh : ℕ) (x : AstNode) (e : AstExpr) (t1 t2 t3 t4 rest : Items)
+        → Key key.Filter at t1 t2 → Operand d m x t2 t3 → Key key.Where wh t3 t4 → Expr d n e t4 rest
+        → Table d (one_operator (together m n)) (node at (op.Filter x e)) t1 rest
+    promote : (d : ℕ) (m n : Count) (at to : ℕ) (x : AstNode) (c : AstKeyDef) (t1 t2 t3 t4 rest : Items)
+        → Key key.Promote at t1 t2 → Operand d m x t2 t3 → Key key.To to t3 t4 → KeyDef d n c t4 rest
+        → Table d (one_operator (together m n)) (node at (op.Promote x c)) t1 rest
+    rename : (d : ℕ) (n : Count) (at : ℕ) (x : AstNode) (ps : List AstPair) (t1 t2 t3 rest : Items)
+        → Key key.Rename at t1 t2 → Operand d n x t2 t3 → Commas Pair ps t3 rest
+        → Table d (one_operator n) (node at (op.Rename x ps)) t1 rest
     operand : (d : ℕ) (n : Count) (x : AstNode) (ts rest : Items) → Operand d n x ts rest → Table d n x ts rest
 
 -- ---- statements

@@ -2,6 +2,8 @@ pub mod AstTypes
 pub mod Atoms
 pub mod ByteClasses
 pub mod Decided
+pub mod ExprGrammar
+pub mod ExprReading
 pub mod FixedWords
 pub mod Grammar
 pub mod Limits
@@ -22,3 +24,5 @@ pub mod TokenLists
 pub mod TokenReadings
 pub mod TokenWords
 pub mod Tokens
+pub mod WordGrammar
+pub mod WordReading

@@ -1,14 +1,9 @@
 -- Reading from left to right: each rule of the grammar by the word that is next.
-use Rattle.std.specs.Prelude.{ℕ, zero, suc, Bool, true, false, nat_lt, List, [], ◌∷◌, length, Option, Some, None, is_some, if◌then◌else◌}
-use Rattle.lara_key.specs.declared.key.KeyType.{KeyType}
-use Rattle.lara_key.specs.declared.key.KeyType.TheVariants as key_type_of
-use Rattle.lara_semiring.specs.declared.value.ValType.{ValType}
-use Rattle.lara_semiring.specs.declared.value.ValType.TheVariants as val_type_of
+use Rattle.std.specs.Prelude.{ℕ, zero, suc, Bool, true, false, nat_lt, List, [], ◌∷◌, ◌++◌, length, Option, Some, None, if◌then◌else◌}
 use Rattle.lara_syntax.specs.declared.item.Lexeme.{Lexeme}
 use Rattle.lara_syntax.specs.declared.item.Lexeme.TheVariants as lex
 use Rattle.lara_syntax.specs.declared.item.Keyword.TheVariants as key
-use Rattle.lara_syntax.specs.declared.item.Sign.{Sign}
-use Rattle.lara_syntax.specs.declared.item.Sign.TheVariants.{Is, Semi, Comma, Colon, OpenBracket, CloseBracket, OpenBrace, CloseBrace, Open, Close}
+use Rattle.lara_syntax.specs.declared.item.Sign.TheVariants.{Is, Semi, Colon, OpenBracket, CloseBracket, OpenBrace, CloseBrace, Open, Close}
 use Rattle.lara_data.specs.declared.refusal.Kind.{Kind}
 use Rattle.lara_data.specs.declared.refusal.Kind.TheVariants.{Unexpected, TooMany}
 use Rattle.lara_syntax.specs.declared.count.Count.{Count}
@@ -19,129 +14,20 @@ use Rattle.lara_syntax.specs.declared.ast.AstKeyCol.{AstKeyCol}
 use Rattle.lara_syntax.specs.declared.ast.AstValCol.{AstValCol}
 use Rattle.lara_syntax.specs.AstTypes.{AstColumns}
 use Rattle.lara_syntax.specs.declared.ast.AstLit.{AstLit}
-use Rattle.lara_syntax.specs.declared.ast.AstValue.{AstValue}
-use Rattle.lara_syntax.specs.declared.ast.AstValue.TheVariants as val
 use Rattle.lara_syntax.specs.declared.ast.AstEntry.{AstEntry}
 use Rattle.lara_syntax.specs.declared.ast.AstNode.{AstNode}
 use Rattle.lara_syntax.specs.declared.ast.AstOp.{AstOp}
 use Rattle.lara_syntax.specs.declared.ast.AstOp.TheVariants as op
+use Rattle.lara_syntax.specs.declared.ast_part.AstDef.{AstDef}
+use Rattle.lara_syntax.specs.declared.ast_part.AstKeyDef.{AstKeyDef}
+use Rattle.lara_syntax.specs.declared.ast_part.AstPair.{AstPair}
 use Rattle.lara_syntax.specs.declared.ast.AstStatement.{AstStatement}
 use Rattle.lara_syntax.specs.declared.ast.AstStatement.TheVariants as st
-use Rattle.lara_syntax.specs.FixedWords.{same_sign}
 use Rattle.lara_syntax.specs.Limits.{Limits, none_counted, one_operator}
 use Rattle.lara_syntax.specs.Places.{node, first_at}
-use Rattle.lara_syntax.specs.Steps.{Reader, ◌>>=◌, give, refuse, peek, skip, items_from, list_from}
-
--- ---- one word
-
--- a sign, by the word that is next
-abbrev pub sign_by : Sign → Option Lexeme → Reader ℕ
-sign_by m (Some (lex.Sign k)) = if same_sign m k then skip else refuse Unexpected
-sign_by m w = refuse Unexpected
-
--- the sign m, which gives its place
-unfoldable pub sign : Sign → Reader ℕ
-sign m = peek >>= sign_by m
-
--- NAME, by the word that is next
-abbrev pub name_by : Option Lexeme → Reader AstName
-name_by (Some (lex.Name n)) = do
-  at ← skip
-  give (record { name = n; at = at })
-name_by w = refuse Unexpected
-
--- NAME, with its place
-unfoldable pub name : Reader AstName
-name = peek >>= name_by
-
--- what the word that is next stands for
-abbrev pub next_as : {A : Type 0} → (Lexeme → Option A) → Option Lexeme → Option A
-next_as f None = None
-next_as f (Some w) = f w
-
--- takes the word that is next, which stands for something; what is made of its place and that
-abbrev pub taken_as : {A B : Type 0} → (ℕ → A → B) → Option A → Reader B
-taken_as make (Some x) = do
-  at ← skip
-  give (make at x)
-taken_as make None = refuse Unexpected
-
--- what a word stands for, without its place
-abbrev pub without_place : {A : Type 0} → ℕ → A → A
-without_place at x = x
-
--- the type of key columns that a word stands for
-abbrev pub word_key_type : Lexeme → Option KeyType
-word_key_type (lex.Key key.Nat) = Some key_type_of.Nat
-word_key_type (lex.Key key.Text) = Some key_type_of.Text
-word_key_type (lex.Key key.Flag) = Some key_type_of.Flag
-word_key_type w = None
-
--- keytype, by the word that is next
-abbrev pub key_type_by : Option Lexeme → Reader KeyType
-key_type_by w = taken_as without_place (next_as word_key_type w)
-
--- keytype, one word
-unfoldable pub key_type : Reader KeyType
-key_type = peek >>= key_type_by
-
--- the type of value columns that a word stands for
-abbrev pub word_val_type : Lexeme → Option ValType
-word_val_type (lex.Key key.Count) = Some val_type_of.Count
-word_val_type (lex.Key key.MinPlus) = Some val_type_of.MinPlus
-word_val_type (lex.Key key.MaxMin) = Some val_type_of.MaxMin
-word_val_type (lex.Key key.Flag) = Some val_type_of.Flag
-word_val_type (lex.Key key.Last) = Some val_type_of.Last
-word_val_type (lex.Key key.Path) = Some val_type_of.Path
-word_val_type w = None
-
--- valtype, by the word that is next
-abbrev pub val_type_by : Option Lexeme → Reader ValType
-val_type_by w = taken_as without_place (next_as word_val_type w)
-
--- valtype, one word
-unfoldable pub val_type : Reader ValType
-val_type = peek >>= val_type_by
-
--- the value of a word that is a literal
-abbrev pub literal_of : Lexeme → Option AstValue
-literal_of (lex.Number n) = Some (val.Number n)
-literal_of (lex.Text content) = Some (val.Text content)
-literal_of (lex.Key key.True) = Some (val.Flag true)
-literal_of (lex.Key key.False) = Some (val.Flag false)
-literal_of (lex.Key key.Inf) = Some val.Inf
-literal_of (lex.Key key.None) = Some val.None
-literal_of w = None
-
--- a literal is next
-abbrev pub is_literal : Option Lexeme → Bool
-is_literal w = is_some (next_as literal_of w)
-
--- a value at its place
-abbrev pub lit_at : ℕ → AstValue → AstLit
-lit_at at v = record { at = at; value = v }
-
--- lit, by the word that is next
-abbrev pub lit_by : Option Lexeme → Reader AstLit
-lit_by w = taken_as lit_at (next_as literal_of w)
-
--- lit, one word
-unfoldable pub lit : Reader AstLit
-lit = peek >>= lit_by
-
--- ---- lists
-
--- [ "," X ], by the word that is next
-abbrev pub comma_by : {A : Type 0} → Reader A → Option Lexeme → Reader (Option A)
-comma_by p (Some (lex.Sign Comma)) = do
-  at ← skip
-  x ← p
-  give (Some x)
-comma_by p w = give None
-
--- [ "," X ]
-abbrev pub comma_then : {A : Type 0} → Reader A → Reader (Option A)
-comma_then p = peek >>= comma_by p
+use Rattle.lara_syntax.specs.Steps.{Reader, ◌>>=◌, give, refuse, peek, skip, turns, items_from, list_from}
+use Rattle.lara_syntax.specs.ExprReading.{expr}
+use Rattle.lara_syntax.specs.WordReading.{sign, keyword, name, key_type, val_type, is_literal, lit, comma_then}
 
 -- ---- names = NAME { "," NAME }
 
@@ -319,16 +205,80 @@ operand_by inside taken w = do
 abbrev pub operand_with : (Count → Reader Counted) → Count → Reader Counted
 operand_with inside taken = peek >>= operand_by inside taken
 
--- ---- table = "join" operand operand | "union" operand operand | "agg" operand "by" [ names ] | operand
+-- ---- pairs of names: pair = NAME "to" NAME
 
--- "by", by the word that is next
-abbrev pub by_word_by : Option Lexeme → Reader ℕ
-by_word_by (Some (lex.Key key.By)) = skip
-by_word_by w = refuse Unexpected
+-- pair = NAME "to" NAME
+unfoldable pub pair : Reader AstPair
+pair = do
+  x ← name
+  at ← keyword key.To
+  y ← name
+  give (record { old = x; new = y })
 
--- "by"
-unfoldable pub by_word : Reader ℕ
-by_word = peek >>= by_word_by
+-- [ "," pair ]
+unfoldable pub comma_pair : Reader (Option AstPair)
+comma_pair = comma_then pair
+
+-- pair { "," pair }
+unfoldable pub pairs : Reader (List AstPair)
+pairs = do
+  x ← pair
+  items_from comma_pair (x ∷ [])
+
+-- ---- definitions, each with what was counted in the statement up to its end
+
+-- a definition, counted
+abbrev pub CountedDef : Type 0
+CountedDef = AstDef × Count
+
+-- definitions, counted
+abbrev pub CountedDefs : Type 0
+CountedDefs = List AstDef × Count
+
+-- def = val_col "=" expr
+unfoldable pub def : Count → ℕ → Count → Reader CountedDef
+def limit levels taken = do
+  c ← val_col
+  at ← sign Is
+  e ← expr limit levels taken
+  give (record { col = c; expr = e.0 }, e.1)
+
+-- [ "," def ]
+unfoldable pub comma_def : Count → ℕ → Count → Reader (Option CountedDef)
+comma_def limit levels taken = comma_then (def limit levels taken)
+
+-- one more behind the others
+abbrev pub def_behind : CountedDefs → Option CountedDef → Option CountedDefs
+def_behind xs None = None
+def_behind xs (Some x) = Some (xs.0 ++ x.0 ∷ [], x.1)
+
+-- [ "," def ] behind others
+abbrev pub more_def : Count → ℕ → CountedDefs → Reader (Option CountedDefs)
+more_def limit levels xs = do
+  x ← comma_def limit levels xs.1
+  give (def_behind xs x)
+
+-- { "," def } behind others
+unfoldable pub defs_from : Count → ℕ → CountedDefs → Reader CountedDefs
+defs_from limit levels xs = turns (more_def limit levels) xs
+
+-- defs = def { "," def }
+unfoldable pub defs : Count → ℕ → Count → Reader CountedDefs
+defs limit levels taken = do
+  x ← def limit levels taken
+  defs_from limit levels (x.0 ∷ [], x.1)
+
+-- key_def = key_col "=" expr
+unfoldable pub key_def : Count → ℕ → Count → Reader (AstKeyDef × Count)
+key_def limit levels taken = do
+  c ← key_col
+  at ← sign Is
+  e ← expr limit levels taken
+  give (record { col = c; expr = e.0 }, e.1)
+
+-- ---- table = "join" operand operand | "union" operand operand | "agg" operand "by" [ names ]
+-- ----       | "map" operand "to" defs | "filter" operand "where" expr | "promote" operand "to" key_def
+-- ----       | "rename" operand pair { "," pair } | operand
 
 -- an operator word behind so many others of its statement
 unfoldable pub operator_word : Count → Count → Reader ℕ
@@ -349,46 +299,98 @@ join_with limit operand taken = operator_word limit taken >>= two_by op.Join ope
 abbrev pub union_with : Count → (Count → Reader Counted) → Count → Reader Counted
 union_with limit operand taken = operator_word limit taken >>= two_by op.Union operand taken
 
--- an operand and names behind an operator word
-abbrev pub agg_by : (Count → Reader Counted) → Count → ℕ → Reader Counted
-agg_by operand taken at = do
+-- an operand behind an operator word at a place, and the rest behind the operand
+abbrev pub one_by : (ℕ → Counted → Reader Counted) → (Count → Reader Counted) → Count → ℕ → Reader Counted
+one_by rest operand taken at = do
   a ← operand (one_operator taken)
-  by ← by_word
+  rest at a
+
+-- "by" [ names ], behind the operand of an agg
+abbrev pub agg_rest : ℕ → Counted → Reader Counted
+agg_rest at a = do
+  by ← keyword key.By
   ns ← some_names
   give (node at (op.Agg a.0 ns), a.1)
 
 -- "agg" operand "by" [ names ], likewise
 abbrev pub agg_with : Count → (Count → Reader Counted) → Count → Reader Counted
-agg_with limit operand taken = operator_word limit taken >>= agg_by operand taken
+agg_with limit operand taken = operator_word limit taken >>= one_by agg_rest operand taken
+
+-- "to" defs, behind the operand of a map
+abbrev pub map_rest : Count → ℕ → ℕ → Counted → Reader Counted
+map_rest limit levels at a = do
+  to ← keyword key.To
+  ds ← defs limit levels a.1
+  give (node at (op.Map a.0 ds.0), ds.1)
+
+-- "map" operand "to" defs, likewise
+abbrev pub map_with : Count → ℕ → (Count → Reader Counted) → Count → Reader Counted
+map_with limit levels operand taken = operator_word limit taken >>= one_by (map_rest limit levels) operand taken
+
+-- "where" expr, behind the operand of a filter
+abbrev pub filter_rest : Count → ℕ → ℕ → Counted → Reader Counted
+filter_rest limit levels at a = do
+  wh ← keyword key.Where
+  e ← expr limit levels a.1
+  give (node at (op.Filter a.0 e.0), e.1)
+
+-- "filter" operand "where" expr, likewise
+abbrev pub filter_with : Count → ℕ → (Count → Reader Counted) → Count → Reader Counted
+filter_with limit levels operand taken = operator_word limit taken >>= one_by (filter_rest limit levels) operand taken
+
+-- "to" key_def, behind the operand of a promote
+abbrev pub promote_rest : Count → ℕ → ℕ → Counted → Reader Counted
+promote_rest limit levels at a = do
+  to ← keyword key.To
+  c ← key_def limit levels a.1
+  give (node at (op.Promote a.0 c.0), c.1)
+
+-- "promote" operand "to" key_def, likewise
+abbrev pub promote_with : Count → ℕ → (Count → Reader Counted) → Count → Reader Counted
+promote_with limit levels operand taken = operator_word limit taken >>= one_by (promote_rest limit levels) operand taken
+
+-- pair { "," pair }, behind the operand of a rename
+abbrev pub rename_rest : ℕ → Counted → Reader Counted
+rename_rest at a = do
+  ps ← pairs
+  give (node at (op.Rename a.0 ps), a.1)
+
+-- "rename" operand pair { "," pair }, likewise
+abbrev pub rename_with : Count → (Count → Reader Counted) → Count → Reader Counted
+rename_with limit operand taken = operator_word limit taken >>= one_by rename_rest operand taken
 
 -- table, by the word that is next
-abbrev pub table_by : Count → (Count → Reader Counted) → Count → Option Lexeme → Reader Counted
-table_by limit operand taken (Some (lex.Key key.Join)) = join_with limit operand taken
-table_by limit operand taken (Some (lex.Key key.Union)) = union_with limit operand taken
-table_by limit operand taken (Some (lex.Key key.Agg)) = agg_with limit operand taken
-table_by limit operand taken w = operand taken
+abbrev pub table_by : Count → ℕ → (Count → Reader Counted) → Count → Option Lexeme → Reader Counted
+table_by limit levels operand taken (Some (lex.Key key.Join)) = join_with limit operand taken
+table_by limit levels operand taken (Some (lex.Key key.Union)) = union_with limit operand taken
+table_by limit levels operand taken (Some (lex.Key key.Agg)) = agg_with limit operand taken
+table_by limit levels operand taken (Some (lex.Key key.Map)) = map_with limit levels operand taken
+table_by limit levels operand taken (Some (lex.Key key.Filter)) = filter_with limit levels operand taken
+table_by limit levels operand taken (Some (lex.Key key.Promote)) = promote_with limit levels operand taken
+table_by limit levels operand taken (Some (lex.Key key.Rename)) = rename_with limit operand taken
+table_by limit levels operand taken w = operand taken
 
--- table = "join" operand operand | "union" operand operand | "agg" operand "by" [ names ] | operand
-abbrev pub table_with : Count → (Count → Reader Counted) → Count → Reader Counted
-table_with limit operand taken = peek >>= table_by limit operand taken
+-- table, where so much was counted before and so many levels may be opened in expressions
+abbrev pub table_with : Count → ℕ → (Count → Reader Counted) → Count → Reader Counted
+table_with limit levels operand taken = peek >>= table_by limit levels operand taken
 
 -- "(" table ")", with the same numbers as operand
 unfoldable pub inside : Count → ℕ → Count → Reader Counted
 inside limit zero taken = refuse TooMany
 inside limit (suc levels) taken = do
   at ← skip
-  x ← table_with limit (operand_with (inside limit levels)) taken
+  x ← table_with limit levels (operand_with (inside limit levels)) taken
   end ← sign Close
   give x
 
--- An operand. A statement may have so much of what is counted as limit says, and so many levels of ( may still be opened;
--- taken was counted before it.
+-- An operand. A statement may have so much of what is counted as limit says, and so many levels may still be opened; taken was
+-- counted before it.
 unfoldable pub operand : Count → ℕ → Count → Reader Counted
 operand limit levels taken = operand_with (inside limit levels) taken
 
 -- the same of a table
 unfoldable pub table : Count → ℕ → Count → Reader Counted
-table limit levels taken = table_with limit (operand limit levels) taken
+table limit levels taken = table_with limit levels (operand limit levels) taken
 
 -- ---- statement = NAME "=" table ";" | "print" NAME [ "by" [ names ] ] ";"
 

@@ -47,6 +47,14 @@ impl AstDefs {
         }
     }
 
+    /// These definitions, of which there is one at least.
+    pub fn of(list: List<AstDef>) -> AstDefs
+        requires { 0 < length list }
+        ensures { result ≡ list }
+    {
+        AstDefs { list }
+    }
+
     /// The definitions in place, with no copy.
     pub fn list(&self) -> &List<AstDef>
         ensures value { result.now ≡ self.now }

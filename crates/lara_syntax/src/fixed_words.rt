@@ -1,6 +1,6 @@
 //! How keywords and signs are written.
 ghost use Rattle.std.specs.Prelude.{◌≡◌};
-ghost use Rattle.lara_syntax.specs.FixedWords.{keyword_text, sign_text, keyword_of, sign_of, same_sign};
+ghost use Rattle.lara_syntax.specs.FixedWords.{keyword_text, sign_text, keyword_of, sign_of, same_keyword, same_sign};
 
 use crate::item::{Keyword, Sign};
 
@@ -113,6 +113,13 @@ impl Keyword {
             Keyword::Where => b"where",
             Keyword::With => b"with",
         }
+    }
+
+    /// Whether two keywords are one, which their texts tell.
+    pub fn same(self, other: Keyword) -> bool
+        ensures { result ≡ same_keyword self other }
+    {
+        self.text() == other.text()
     }
 }
 

@@ -35,6 +35,8 @@ pub use token::{Token, TokenList, TokenWord, tokens};
 #[cfg(test)]
 mod tests_copies;
 #[cfg(test)]
+mod tests_exprs;
+#[cfg(test)]
 mod tests_grammar;
 #[cfg(test)]
 mod tests_shown;

@@ -85,8 +85,9 @@ fn exact_tree(alloc: Global, bytes: &[u8]) -> Result<Ast, ReadFault>
 }
 
 /// The tree of a script, or the first refusal: the least place at which no script goes on. A token's own refusal comes
-/// before the grammar's at the same place. A script has at most 256 statements, a statement at most 64 operator words, and
-/// a table at most 64 levels of `(`.
+/// before the grammar's at the same place. A script has at most 256 statements, a statement at most 64 operator words and
+/// 1,024 signs and words between parts of expressions, and a table with its expressions at most 64 levels, which `(`, `not`,
+/// `if` and functions open.
 #[tactic(auto, using(crate::proofs::ScriptLaws::parsed_laws))]
 pub fn parse(alloc: Global, bytes: &[u8]) -> Result<Ast, ReadFault>
     requires { length bytes.now ≤ most_bytes }

@@ -1,5 +1,4 @@
-//! Copies of tokens, and of those parts of a tree that no rule of the grammar makes yet, each by the bound alone. A copy is
-//! compared with the text that shows it.
+//! Copies of tokens and of parts of a tree, each by the bound alone. A copy is compared with the text that shows it.
 ghost use Rattle.std.specs.Prelude.{◌<◌, length, IfOk};
 
 use crate::ast::{
@@ -7,9 +6,8 @@ use crate::ast::{
     AstValue,
 };
 use crate::ast_expr::{AstExpr, AstForm};
-use crate::ast_part::{
-    AstArg, AstArgLit, AstArgValue, AstCall, AstDef, AstDefs, AstKeyDef, AstPair,
-};
+use crate::ast_part::{AstArg, AstArgLit, AstArgValue, AstCall, AstDef, AstDefs, AstKeyDef};
+use crate::tests_exprs::behind_expr;
 use crate::tests_grammar::{behind_name, behind_names, behind_node, behind_statement};
 use crate::tests_shown::{behind, behind_number, behind_place, copy_of, is_end};
 use crate::tests_tokens::{are_shown, behind_word};
@@ -96,30 +94,6 @@ fn choice(alloc: Global) -> Result<AstForm, AllocError> {
 
 fn fun(alloc: Global) -> Result<AstForm, AllocError> {
     Ok(AstForm::Fun(FunOp::Num, boxed(alloc, 2)?))
-}
-
-// What is left behind an expression: its place, its word and what follows, each operand likewise.
-fn behind_expr<'a>(want: &'a [u8], expr: &AstExpr) -> Option<&'a [u8]> {
-    let rest = behind_place(want, expr.at)?;
-    match &expr.form {
-        AstForm::Column(name) => behind(behind(rest, name.bytes().as_slice())?, b" "),
-        AstForm::Number(n) => behind(behind_number(rest, *n)?, b" "),
-        AstForm::Text(text) => behind(behind(rest, text.bytes().as_slice())?, b"! "),
-        AstForm::Flag(true) => behind(rest, b"true "),
-        AstForm::Flag(false) => behind(rest, b"false "),
-        AstForm::Inf => behind(rest, b"inf "),
-        AstForm::None => behind(rest, b"none "),
-        AstForm::Two(TwoOp::Add, a, b) => {
-            behind_expr(behind_expr(behind(rest, b"+ ")?, a.get())?, b.get())
-        }
-        AstForm::Not(a) => behind_expr(behind(rest, b"not ")?, a.get()),
-        AstForm::If(test, a, b) => {
-            let rest = behind_expr(behind(rest, b"if ")?, test.get())?;
-            behind_expr(behind_expr(rest, a.get())?, b.get())
-        }
-        AstForm::Fun(FunOp::Num, a) => behind_expr(behind(rest, b"num ")?, a.get()),
-        _ => None,
-    }
 }
 
 // Whether the text shows the copy of an expression of this form at the place 4.
@@ -222,11 +196,6 @@ fn key_def(alloc: Global) -> Result<AstKeyDef, AllocError> {
     })
 }
 
-fn pair(alloc: Global) -> Result<AstPair, AllocError> {
-    let (old, new) = both(placed(alloc, b'i'), placed(alloc, b'j'))?;
-    Ok(AstPair { old, new })
-}
-
 fn column_arg(alloc: Global) -> Result<AstArg, AllocError> {
     Ok(AstArg::Column(placed(alloc, b'a')?))
 }
@@ -264,30 +233,9 @@ fn promote_op(alloc: Global) -> Result<AstOp, AllocError> {
     Ok(AstOp::Promote(a, def))
 }
 
-fn rename_op(alloc: Global) -> Result<AstOp, AllocError> {
-    let (a, pairs) = both(named(alloc), one(alloc, pair(alloc)))?;
-    Ok(AstOp::Rename(a, pairs))
-}
-
 fn apply_op(alloc: Global, arg: Result<AstArg, AllocError>) -> Result<AstOp, AllocError> {
     let (a, call) = both(named(alloc), copied(alloc, call(alloc, arg)))?;
     Ok(AstOp::Apply(a, call))
-}
-
-fn behind_defs<'a>(want: &'a [u8], defs: &[AstDef]) -> Option<&'a [u8]> {
-    let mut rest = want;
-    for def in defs {
-        rest = behind_expr(behind_name(rest, &def.col.name)?, &def.expr)?;
-    }
-    Some(rest)
-}
-
-fn behind_pairs<'a>(want: &'a [u8], pairs: &[AstPair]) -> Option<&'a [u8]> {
-    let mut rest = want;
-    for pair in pairs {
-        rest = behind_name(behind_name(rest, &pair.old)?, &pair.new)?;
-    }
-    Some(rest)
 }
 
 fn behind_arg_value<'a>(want: &'a [u8], value: &AstArgValue) -> Option<&'a [u8]> {
@@ -319,22 +267,6 @@ fn behind_args<'a>(want: &'a [u8], args: &[AstArg]) -> Option<&'a [u8]> {
 fn behind_table<'a>(want: &'a [u8], node: &AstNode) -> Option<&'a [u8]> {
     let rest = behind_place(want, node.at)?;
     match &node.op {
-        AstOp::Map(a, defs) => {
-            let rest = behind_node(behind(rest, b"map ")?, a.get())?;
-            behind_defs(rest, defs.list().as_slice())
-        }
-        AstOp::Filter(a, test) => behind_expr(
-            behind_node(behind(rest, b"filter ")?, a.get())?,
-            test,
-        ),
-        AstOp::Promote(a, def) => {
-            let rest = behind_node(behind(rest, b"promote ")?, a.get())?;
-            behind_expr(behind_name(rest, &def.col.name)?, &def.expr)
-        }
-        AstOp::Rename(a, pairs) => {
-            let rest = behind_node(behind(rest, b"rename ")?, a.get())?;
-            behind_pairs(rest, pairs.as_slice())
-        }
         AstOp::Apply(a, call) => {
             let rest = behind_node(behind(rest, b"apply ")?, a.get())?;
             let rest = behind_args(behind_name(rest, &call.plugin)?, call.args.as_slice())?;
@@ -380,10 +312,9 @@ fn literals_are_copied(rt: HostRuntime) -> Result<(), Fail> {
 #[test]
 fn operators_are_copied(rt: HostRuntime) -> Result<(), Fail> {
     let alloc = rt.alloc();
-    assert!(rt; is_table_copied_as(alloc, map_op(alloc), b"7 map 7 T@7 v@7 4 5 ")?);
+    assert!(rt; is_table_copied_as(alloc, map_op(alloc), b"7 map 7 T@7 v@7 count 4 5 ")?);
     assert!(rt; is_table_copied_as(alloc, filter_op(alloc), b"7 filter 7 T@7 4 5 ")?);
-    assert!(rt; is_table_copied_as(alloc, promote_op(alloc), b"7 promote 7 T@7 k@7 4 6 ")?);
-    assert!(rt; is_table_copied_as(alloc, rename_op(alloc), b"7 rename 7 T@7 i@7 j@7 ")?);
+    assert!(rt; is_table_copied_as(alloc, promote_op(alloc), b"7 promote 7 T@7 k@7 nat 4 6 ")?);
     Ok(())
 }
 

@@ -5,7 +5,9 @@ use crate::ast::{
     Ast, AstBy, AstEntry, AstKeyCol, AstLit, AstName, AstNode, AstOp, AstStatement, AstType,
     AstValCol, AstValue,
 };
+use crate::ast_part::AstPair;
 use crate::parsing::parse;
+use crate::tests_exprs::{behind_defs, behind_expr, behind_key_def};
 use crate::tests_shown::{behind, behind_number, behind_place, copy_of, is_end, is_refusal};
 use lara_data::ReadFault;
 use lara_key::KeyType;
@@ -14,7 +16,7 @@ use std::alloc::{AllocError, Global};
 
 // Each script with its tree: a statement, a table, an entry, a name and a value each with its place, and the types of
 // columns; or its refusal.
-const CASES: [(&[u8], &str); 43] = [
+const CASES: [(&[u8], &str); 46] = [
     (b"", ""),
     (b"# nothing\n", ""),
     (
@@ -42,6 +44,10 @@ const CASES: [(&[u8], &str); 43] = [
         "0 C@0 = 4 union 10 load A@15 19 agg 23 T@23 by ",
     ),
     (b"C = ((T));", "0 C@0 = 6 T@6 "),
+    (
+        b"B = rename (A) a to b, c to d;",
+        "0 B@0 = 4 rename 12 A@12 a@15 b@20 c@23 d@28 ",
+    ),
     (b"T = ;", "4 Unexpected"),
     (b"T = join A;", "10 Unexpected"),
     (b"T = join A agg B by;", "11 Unexpected"),
@@ -49,6 +55,8 @@ const CASES: [(&[u8], &str); 43] = [
     (b"T = (A", "6 Unexpected"),
     (b"T = agg A;", "9 Unexpected"),
     (b"T = agg A by i,;", "15 Unexpected"),
+    (b"T = rename A a b;", "15 Unexpected"),
+    (b"T = rename A a to;", "17 Unexpected"),
     (b"T = load;", "8 Unexpected"),
     (b"T = A B;", "6 Unexpected"),
     (b"T = ", "4 Unexpected"),
@@ -157,10 +165,20 @@ fn val_type_name(ty: ValType) -> &'static [u8] {
     }
 }
 
+// What is left behind a key column: its name and its type.
+pub fn behind_key<'a>(want: &'a [u8], col: &AstKeyCol) -> Option<&'a [u8]> {
+    behind_word(behind_name(want, &col.name)?, key_type_name(col.ty))
+}
+
+// What is left behind a value column likewise.
+pub fn behind_val<'a>(want: &'a [u8], col: &AstValCol) -> Option<&'a [u8]> {
+    behind_word(behind_name(want, &col.name)?, val_type_name(col.ty))
+}
+
 fn behind_keys<'a>(want: &'a [u8], keys: &[AstKeyCol]) -> Option<&'a [u8]> {
     let mut rest = want;
     for col in keys {
-        rest = behind_word(behind_name(rest, &col.name)?, key_type_name(col.ty))?;
+        rest = behind_key(rest, col)?;
     }
     Some(rest)
 }
@@ -168,7 +186,7 @@ fn behind_keys<'a>(want: &'a [u8], keys: &[AstKeyCol]) -> Option<&'a [u8]> {
 fn behind_vals<'a>(want: &'a [u8], vals: &[AstValCol]) -> Option<&'a [u8]> {
     let mut rest = want;
     for col in vals {
-        rest = behind_word(behind_name(rest, &col.name)?, val_type_name(col.ty))?;
+        rest = behind_val(rest, col)?;
     }
     Some(rest)
 }
@@ -176,6 +194,14 @@ fn behind_vals<'a>(want: &'a [u8], vals: &[AstValCol]) -> Option<&'a [u8]> {
 fn behind_type<'a>(want: &'a [u8], ty: &AstType) -> Option<&'a [u8]> {
     let rest = behind_keys(want, ty.keys.as_slice())?;
     behind_vals(behind(rest, b": ")?, ty.vals.as_slice())
+}
+
+fn behind_pairs<'a>(want: &'a [u8], pairs: &[AstPair]) -> Option<&'a [u8]> {
+    let mut rest = want;
+    for pair in pairs {
+        rest = behind_name(behind_name(rest, &pair.old)?, &pair.new)?;
+    }
+    Some(rest)
 }
 
 // What is left behind a table: its place, its word and what follows, each operand likewise.
@@ -195,6 +221,20 @@ pub fn behind_node<'a>(want: &'a [u8], node: &AstNode) -> Option<&'a [u8]> {
         AstOp::Agg(a, names) => {
             let rest = behind_node(behind(rest, b"agg ")?, a.get())?;
             behind_names(behind(rest, b"by ")?, names.as_slice())
+        }
+        AstOp::Map(a, defs) => {
+            let rest = behind_node(behind(rest, b"map ")?, a.get())?;
+            behind_defs(rest, defs.list().as_slice())
+        }
+        AstOp::Filter(a, test) => {
+            behind_expr(behind_node(behind(rest, b"filter ")?, a.get())?, test)
+        }
+        AstOp::Promote(a, def) => {
+            behind_key_def(behind_node(behind(rest, b"promote ")?, a.get())?, def)
+        }
+        AstOp::Rename(a, pairs) => {
+            let rest = behind_node(behind(rest, b"rename ")?, a.get())?;
+            behind_pairs(rest, pairs.as_slice())
         }
         _ => None,
     }
@@ -244,7 +284,7 @@ fn is_copied_as(alloc: Global, ast: &Ast, want: &[u8]) -> Result<bool, AllocErro
 }
 
 // Whether the text shows the tree of the script, or its refusal.
-fn is_parsed_as(alloc: Global, script: &[u8], want: &[u8]) -> Result<bool, AllocError>
+pub fn is_parsed_as(alloc: Global, script: &[u8], want: &[u8]) -> Result<bool, AllocError>
     requires { length script.now ≤ 1048576 }
 {
     match parse(alloc, script) {
@@ -283,7 +323,7 @@ fn repeated(
 }
 
 // Whether the text shows the tree or the refusal of as many times another between two.
-fn are_parsed_as(
+pub fn are_parsed_as(
     alloc: Global,
     before: &[u8],
     times: usize,
@@ -389,9 +429,11 @@ fn the_65th_level_is_refused(rt: HostRuntime) -> Result<(), AllocError> {
 #[test]
 fn the_65th_operator_is_refused(rt: HostRuntime) -> Result<(), AllocError> {
     // Behind 63 operator words and as many levels, which take 506 bytes.
-    let cases: [(&[u8], &str); 3] = [
+    let cases: [(&[u8], &str); 5] = [
         (b"agg A by ,", "515 Unexpected"),
         (b"union A (join", "515 TooMany"),
+        (b"rename (rename", "514 TooMany"),
+        (b"map (filter", "511 TooMany"),
         (b"union A join", "514 Unexpected"),
     ];
     for (behind, want) in cases {

@@ -2,7 +2,8 @@
 ghost use Rattle.std.specs.Prelude.{◌≡◌, ◌∷◌, ◌+◌, ◌≤◌, ◌<◌, [], length, IfOk};
 ghost use Rattle.lara_syntax.specs.Returns.{Returns};
 ghost use Rattle.lara_syntax.specs.Steps.{Gives, items_from};
-ghost use Rattle.lara_syntax.specs.Reading.{word_key_type, word_val_type, key_type, val_type, key_col, val_col, comma_key_col, comma_val_col, some_key_cols, val_cols, table_type};
+ghost use Rattle.lara_syntax.specs.Reading.{key_col, val_col, comma_key_col, comma_val_col, some_key_cols, val_cols, table_type};
+ghost use Rattle.lara_syntax.specs.WordReading.{word_key_type, word_val_type, key_type, val_type};
 
 use crate::ast::{AstKeyCol, AstType, AstValCol};
 use crate::fault::{Fault, Stop};
@@ -27,7 +28,7 @@ fn word_key_type(lexeme: &Lexeme) -> Option<KeyType>
 }
 
 // keytype, one word
-#[tactic(auto, unfolding(crate::specs::Reading::key_type))]
+#[tactic(auto, unfolding(crate::specs::WordReading::key_type))]
 fn key_type(items: &[Item]) -> Result<(KeyType, &[Item]), Stop>
     ensures { Returns (λ x. (x.0, x.1.now)) result (key_type items.now) }
 {
@@ -56,7 +57,7 @@ fn word_val_type(lexeme: &Lexeme) -> Option<ValType>
 }
 
 // valtype, one word
-#[tactic(auto, unfolding(crate::specs::Reading::val_type))]
+#[tactic(auto, unfolding(crate::specs::WordReading::val_type))]
 fn val_type(items: &[Item]) -> Result<(ValType, &[Item]), Stop>
     ensures { Returns (λ x. (x.0, x.1.now)) result (val_type items.now) }
 {
@@ -69,9 +70,9 @@ fn val_type(items: &[Item]) -> Result<(ValType, &[Item]), Stop>
     }
 }
 
-// key_col = NAME ":" keytype
+/// key_col = NAME ":" keytype
 #[tactic(auto, unfolding(crate::specs::Reading::key_col))]
-fn key_col(alloc: Global, items: &[Item]) -> Result<(AstKeyCol, &[Item]), Fault>
+pub fn key_col(alloc: Global, items: &[Item]) -> Result<(AstKeyCol, &[Item]), Fault>
     ensures { Gives (λ x. (x.0, x.1.now)) result (key_col items.now) }
 {
     let (name, rest) = name(alloc, items)?;
@@ -137,9 +138,9 @@ fn some_key_cols(alloc: Global, items: &[Item]) -> Result<(List<AstKeyCol>, &[It
     }
 }
 
-// val_col = NAME ":" valtype
+/// val_col = NAME ":" valtype
 #[tactic(auto, unfolding(crate::specs::Reading::val_col))]
-fn val_col(alloc: Global, items: &[Item]) -> Result<(AstValCol, &[Item]), Fault>
+pub fn val_col(alloc: Global, items: &[Item]) -> Result<(AstValCol, &[Item]), Fault>
     ensures { Gives (λ x. (x.0, x.1.now)) result (val_col items.now) }
 {
     let (name, rest) = name(alloc, items)?;

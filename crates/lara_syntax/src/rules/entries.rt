@@ -3,7 +3,8 @@ ghost use Rattle.std.specs.Prelude.{◌≡◌, ◌∷◌, ◌+◌, ◌≤◌, �
 ghost use Rattle.lara_syntax.specs.Atoms.{is_plain_lexeme, HoldNoText};
 ghost use Rattle.lara_syntax.specs.Steps.{HasMemory, Gives, items_from};
 ghost use Rattle.lara_syntax.specs.Places.{first_at};
-ghost use Rattle.lara_syntax.specs.Reading.{literal_of, is_literal, lit, comma_lit, lits, some_lits, entry, an_entry, entry_here, semi_entry, some_entries};
+ghost use Rattle.lara_syntax.specs.Reading.{comma_lit, lits, some_lits, entry, an_entry, entry_here, semi_entry, some_entries};
+ghost use Rattle.lara_syntax.specs.WordReading.{literal_of, is_literal, lit};
 
 use crate::ast::{AstEntry, AstLit, AstValue};
 use crate::fault::Fault;
@@ -40,9 +41,9 @@ fn is_literal(lexeme: &Lexeme) -> bool
     }
 }
 
-// lit, one word
-#[tactic(auto, unfolding(crate::specs::Reading::lit))]
-fn lit(alloc: Global, items: &[Item]) -> Result<(AstLit, &[Item]), Fault>
+/// lit, one word
+#[tactic(auto, unfolding(crate::specs::WordReading::lit))]
+pub fn lit(alloc: Global, items: &[Item]) -> Result<(AstLit, &[Item]), Fault>
     ensures gives { Gives (λ x. (x.0, x.1.now)) result (lit items.now) }
     ensures exact { HoldNoText items.now → HasMemory result }
 {

@@ -51,7 +51,10 @@ fn statement(alloc: Global, items: &[Item]) -> Result<(AstStatement, &[Item]), F
         Lexeme::Name(_) => {
             let (name, rest) = name(alloc, items)?;
             let (_, rest) = sign(rest, Sign::Is)?;
-            let none = Count { operators: 0 };
+            let none = Count {
+                operators: 0,
+                signs: 0,
+            };
             let (node, _, rest) = table(alloc, MOST_LEVELS, none, rest)?;
             let (_, rest) = sign(rest, Sign::Semi)?;
             let at = name.at;
@@ -106,7 +109,7 @@ fn has_room(before: &[AstStatement]) -> bool
 }
 
 // script = { statement }
-#[tactic(auto, using(crate::proofs::RuleReaders::statement_laws))]
+#[tactic(auto, using(crate::proofs::TableReaders::statement_laws))]
 fn statements(alloc: Global, items: &[Item]) -> Result<(List<AstStatement>, &[Item]), Fault>
     ensures { Gives (λ x. (x.0, x.1.now)) result (statements most [] items.now) }
 {

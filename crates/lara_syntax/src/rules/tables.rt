@@ -3,32 +3,21 @@ ghost use Rattle.std.specs.Prelude.{◌≡◌, ◌∷◌, ◌+◌, ◌≤◌, �
 ghost use Rattle.lara_syntax.specs.Limits.{most};
 ghost use Rattle.lara_syntax.specs.Returns.{Returns};
 ghost use Rattle.lara_syntax.specs.Steps.{Gives};
-ghost use Rattle.lara_syntax.specs.Reading.{by_word, operator_word, join_with, union_with, agg_with, inside, operand, table};
+ghost use Rattle.lara_syntax.specs.Reading.{operator_word, join_with, union_with, agg_with, map_with, filter_with, promote_with, rename_with, inside, operand, table};
 
 use crate::ast::{AstNode, AstOp};
 use crate::count::Count;
 use crate::fault::{Fault, Stop};
 use crate::item::{Item, Keyword, Lexeme, Sign};
+use crate::rules::defs::{defs, key_def};
+use crate::rules::exprs::expr;
 use crate::rules::leaves::leaf;
 use crate::rules::names::some_names;
-use crate::steps::{next, sign, stopped};
+use crate::rules::pairs::pairs;
+use crate::steps::{keyword, next, sign, stopped};
 use lara_base::Boxed;
 use lara_data::Kind;
 use std::alloc::Global;
-
-// The place of "by".
-#[tactic(auto, unfolding(crate::specs::Reading::by_word))]
-fn by_word(items: &[Item]) -> Result<(u32, &[Item]), Stop>
-    ensures { Returns (λ x. (x.0, x.1.now)) result (by_word items.now) }
-{
-    let Some((item, rest)) = next(items) else {
-        return Err(stopped(items, Kind::Unexpected));
-    };
-    match &item.lexeme {
-        Lexeme::Key(Keyword::By) => Ok((item.at, rest)),
-        _ => Err(stopped(items, Kind::Unexpected)),
-    }
-}
 
 // The place of an operator word behind so many others.
 #[tactic(auto, unfolding(crate::specs::Reading::operator_word))]
@@ -92,9 +81,80 @@ fn agg(
 {
     let (at, rest) = operator_word(items, taken)?;
     let (a, taken, rest) = operand(alloc, levels, taken.one_operator(), rest)?;
-    let (_, rest) = by_word(rest)?;
+    let (_, rest) = keyword(rest, Keyword::By)?;
     let (names, rest) = some_names(alloc, rest)?;
     let op = AstOp::Agg(Boxed::new(alloc, a)?, names);
+    Ok((AstNode { at, op }, taken, rest))
+}
+
+// "map" operand "to" defs
+#[cycle(tables)]
+fn map(
+    alloc: Global,
+    levels: u32,
+    taken: Count,
+    items: &[Item],
+) -> Result<(AstNode, Count, &[Item]), Fault>
+    ensures { Gives (λ x. ((x.0, x.1), x.2.now)) result (map_with most.counted levels (operand most.counted levels) taken items.now) }
+{
+    let (at, rest) = operator_word(items, taken)?;
+    let (a, taken, rest) = operand(alloc, levels, taken.one_operator(), rest)?;
+    let (_, rest) = keyword(rest, Keyword::To)?;
+    let (defs, taken, rest) = defs(alloc, levels, taken, rest)?;
+    let op = AstOp::Map(Boxed::new(alloc, a)?, defs);
+    Ok((AstNode { at, op }, taken, rest))
+}
+
+// "filter" operand "where" expr
+#[cycle(tables)]
+fn filter(
+    alloc: Global,
+    levels: u32,
+    taken: Count,
+    items: &[Item],
+) -> Result<(AstNode, Count, &[Item]), Fault>
+    ensures { Gives (λ x. ((x.0, x.1), x.2.now)) result (filter_with most.counted levels (operand most.counted levels) taken items.now) }
+{
+    let (at, rest) = operator_word(items, taken)?;
+    let (a, taken, rest) = operand(alloc, levels, taken.one_operator(), rest)?;
+    let (_, rest) = keyword(rest, Keyword::Where)?;
+    let (test, taken, rest) = expr(alloc, levels, taken, rest)?;
+    let op = AstOp::Filter(Boxed::new(alloc, a)?, test);
+    Ok((AstNode { at, op }, taken, rest))
+}
+
+// "promote" operand "to" key_def
+#[cycle(tables)]
+fn promote(
+    alloc: Global,
+    levels: u32,
+    taken: Count,
+    items: &[Item],
+) -> Result<(AstNode, Count, &[Item]), Fault>
+    ensures { Gives (λ x. ((x.0, x.1), x.2.now)) result (promote_with most.counted levels (operand most.counted levels) taken items.now) }
+{
+    let (at, rest) = operator_word(items, taken)?;
+    let (a, taken, rest) = operand(alloc, levels, taken.one_operator(), rest)?;
+    let (_, rest) = keyword(rest, Keyword::To)?;
+    let (def, taken, rest) = key_def(alloc, levels, taken, rest)?;
+    let op = AstOp::Promote(Boxed::new(alloc, a)?, def);
+    Ok((AstNode { at, op }, taken, rest))
+}
+
+// "rename" operand pair { "," pair }
+#[cycle(tables)]
+fn rename(
+    alloc: Global,
+    levels: u32,
+    taken: Count,
+    items: &[Item],
+) -> Result<(AstNode, Count, &[Item]), Fault>
+    ensures { Gives (λ x. ((x.0, x.1), x.2.now)) result (rename_with most.counted (operand most.counted levels) taken items.now) }
+{
+    let (at, rest) = operator_word(items, taken)?;
+    let (a, taken, rest) = operand(alloc, levels, taken.one_operator(), rest)?;
+    let (pairs, rest) = pairs(alloc, rest)?;
+    let op = AstOp::Rename(Boxed::new(alloc, a)?, pairs);
     Ok((AstNode { at, op }, taken, rest))
 }
 
@@ -140,7 +200,9 @@ fn operand(
     Ok((x, taken, rest))
 }
 
-/// table = "join" operand operand | "union" operand operand | "agg" operand "by" [ names ] | operand
+/// table = "join" operand operand | "union" operand operand | "agg" operand "by" [ names ]
+///       | "map" operand "to" defs | "filter" operand "where" expr | "promote" operand "to" key_def
+///       | "rename" operand pair { "," pair } | operand
 #[tactic(auto, unfolding(crate::specs::Reading::table))]
 #[cycle(tables)]
 pub fn table(
@@ -158,6 +220,10 @@ pub fn table(
         Lexeme::Key(Keyword::Join) => join(alloc, levels, taken, items),
         Lexeme::Key(Keyword::Union) => union(alloc, levels, taken, items),
         Lexeme::Key(Keyword::Agg) => agg(alloc, levels, taken, items),
+        Lexeme::Key(Keyword::Map) => map(alloc, levels, taken, items),
+        Lexeme::Key(Keyword::Filter) => filter(alloc, levels, taken, items),
+        Lexeme::Key(Keyword::Promote) => promote(alloc, levels, taken, items),
+        Lexeme::Key(Keyword::Rename) => rename(alloc, levels, taken, items),
         _ => operand(alloc, levels, taken, items),
     }
 }

@@ -1,7 +1,7 @@
 -- Each statement takes a word.
 use Rattle.std.proofs.Common.{ap, ◌∙◌}
 use Rattle.lara_syntax.proofs.Turns.{read_of}
-use Rattle.lara_syntax.proofs.RuleReaders.{next_statement-one}
+use Rattle.lara_syntax.proofs.TableReaders.{next_statement-one}
 use Rattle.lara_syntax.proofs.rules.statements.statements.Goals as goal
 
 pub loop-xs-smaller : goal.loop-xs-smaller

@@ -17,5 +17,17 @@ decreases-union l = 4 * l.levels + 2
 abbrev pub decreases-agg : goal.decreases-agg
 decreases-agg l = 4 * l.levels + 2
 
+abbrev pub decreases-rename : goal.decreases-rename
+decreases-rename l = 4 * l.levels + 2
+
+abbrev pub decreases-map : goal.decreases-map
+decreases-map l = 4 * l.levels + 2
+
+abbrev pub decreases-filter : goal.decreases-filter
+decreases-filter l = 4 * l.levels + 2
+
+abbrev pub decreases-promote : goal.decreases-promote
+decreases-promote l = 4 * l.levels + 2
+
 abbrev pub decreases-table : goal.decreases-table
 decreases-table l = 4 * l.levels + 3
