@@ -28,3 +28,5 @@ pub use value::{Row, ValType, Value, is_over, plus, same_val_type, times, zero};
 
 #[cfg(test)]
 mod tests;
+#[cfg(test)]
+mod tests_codes;
