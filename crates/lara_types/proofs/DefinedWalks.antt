@@ -1,7 +1,6 @@
 -- The names that a map defines, one after the other, and the map behind them.
-use Rattle.std.specs.Prelude.{◌≡◌, ◌<◌, ◌≤◌, ◌+◌, ℕ, Bool, true, false, cond, not, ◌&&◌, ◌||◌, nat_lt, nat_le, List, [], ◌∷◌, ◌++◌, length, map, take, Option, Some, None, Result, Ok, Err}
-use Rattle.std.specs.Bool.{IsTrue}
-use Rattle.std.specs.BTreeSet.{BTreeSet, IsEmpty}
+use Rattle.std.specs.Prelude.{◌≡◌, ◌<◌, ◌≤◌, ◌+◌, ℕ, Bool, true, false, cond, not, ◌||◌, nat_lt, List, [], ◌∷◌, ◌++◌, length, map, take, Option, Some, None, Result, Ok, Err}
+use Rattle.std.specs.BTreeSet.{BTreeSet}
 use Rattle.std.proofs.Common.{refl, sym, ap, ◌∙◌, arith, get_or, append_assoc}
 use Rattle.std.proofs.lemmas.Bool.{ltb-true, ltb-false}
 use Rattle.std.proofs.lemmas.Bool.Decides.{nat_tests}
@@ -14,10 +13,9 @@ use Rattle.lara_data.specs.declared.refusal.Kind.TheVariants.{NameTwice, TooMany
 use Rattle.lara_data.specs.declared.refusal.Refusal.{Refusal}
 use Rattle.lara_data.specs.declared.refusal.ReadFault.{ReadFault}
 use Rattle.lara_data.specs.declared.refusal.ReadFault.TheVariants as faults
-use Rattle.lara_data.specs.declared.table_type.KeyCol.{KeyCol}
 use Rattle.lara_data.specs.ExtensionLaws.{map_are_columns}
 use Rattle.lara_data.specs.Extensions.{each_columns}
-use Rattle.lara_data.specs.Judgements.{Judged, Judges, FaultJudges, refused}
+use Rattle.lara_data.specs.Judgements.{Judges, refused}
 use Rattle.lara_data.specs.Names.{Name, has, has_append, distinct}
 use Rattle.lara_data.specs.TableTypes.{Columns, key_names, are_columns, most_columns}
 use Rattle.lara_data.specs.DistinctColumns.{distinct_names}
@@ -28,18 +26,17 @@ use Rattle.lara_syntax.specs.declared.ast.AstName.{AstName}
 use Rattle.lara_syntax.specs.declared.ast_part.AstDef.{AstDef}
 use Rattle.lara_types.specs.CheckedTrees.{typed, mapped}
 use Rattle.lara_types.specs.DefinedNames.{def_name, one_more_def}
-use Rattle.lara_types.specs.EachRuleLaws.{columns_parts, MapColumns, plain_defined}
+use Rattle.lara_types.specs.EachRuleLaws.{plain_defined}
 use Rattle.lara_types.specs.EachRules.{defined, exprs_rules, fit_rules, map_columns, after_names, map_rules}
 use Rattle.lara_types.specs.LiteralTypes.{one_more_name}
 use Rattle.lara_types.specs.NameRules.{once_rules}
 use Rattle.lara_types.specs.NodeRuleLaws.{once_met}
 use Rattle.lara_types.specs.RuleLaws.{all_met, first_here, first_behind, rules_refuse, in_front, in_sequence}
-use Rattle.lara_types.specs.Rules.{Rule, rule, AllMet, first_broken, unless, by_rules}
+use Rattle.lara_types.specs.Rules.{Rule, rule, AllMet, first_broken}
 use Rattle.lara_types.specs.Seen.{Holds}
 use Rattle.lara_types.specs.WalkLaws.{map-more, walk-none, walk-more, walk-stops}
 use Rattle.lara_types.specs.Walks.{walk}
-use Rattle.lara_types.specs.Written.{plain, plain_def, plain_defs}
-use Rattle.lara_types.proofs.ColumnFacts.{from_true}
+use Rattle.lara_types.specs.Written.{plain_def, plain_defs}
 use Rattle.lara_types.proofs.ColumnTypes.{walk-map, refusal_of, names_judged}
 
 -- ---- one name more

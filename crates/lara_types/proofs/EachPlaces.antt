@@ -1,25 +1,21 @@
 -- The first rule of a map, a filter, a promote or a rename that is broken, step by step.
-use Rattle.std.specs.Prelude.{◌≡◌, ◌<◌, ◌≤◌, ◌+◌, ℕ, Bool, true, false, cond, not, ◌&&◌, ◌||◌, nat_lt, nat_le, List, [], ◌∷◌, ◌++◌, length, map, take, Option, Some, None, Ok, Err}
-use Rattle.std.specs.Bool.{IsTrue}
+use Rattle.std.specs.Prelude.{◌≡◌, ◌<◌, ◌≤◌, ◌+◌, ℕ, Bool, true, false, cond, not, ◌||◌, List, [], ◌∷◌, ◌++◌, length, map, take, Option, Some, None, Ok, Err}
 use Rattle.std.specs.List.{list_any}
 use Rattle.std.specs.Str.{bytes_eq}
-use Rattle.std.proofs.Common.{refl, sym, ap, ◌∙◌, arith, get_or, drop}
+use Rattle.std.proofs.Common.{refl, sym, ap, ◌∙◌, get_or, drop}
 use Rattle.std.proofs.Math.ListN.{drop_of_length-le}
-use Rattle.std.proofs.lemmas.Bool.Decides.{nat_tests}
-use Rattle.std.proofs.lemmas.List.{drop_more, length-map}
-use Rattle.lara_data.specs.declared.arg.Def.{Def}
+use Rattle.std.proofs.lemmas.List.{drop_more}
 use Rattle.lara_data.specs.declared.expr_val.ExprType.{ExprType}
 use Rattle.lara_data.specs.declared.expr_val.ExprType.TheVariants.{Flag}
 use Rattle.lara_data.specs.declared.order.EachOp.TheVariants as each
 use Rattle.lara_data.specs.declared.refusal.Kind.{Kind}
 use Rattle.lara_data.specs.declared.refusal.Kind.TheVariants.{NoName, NameTwice, TooManyColumns, TypesDiffer}
 use Rattle.lara_data.specs.declared.refusal.Refusal.{Refusal}
-use Rattle.lara_data.specs.ExprTypes.{key_expr_type, val_expr_type, same_expr_type, ExprTyping, expr_type}
+use Rattle.lara_data.specs.ExprTypes.{key_expr_type, val_expr_type, same_expr_type, ExprTyping}
 use Rattle.lara_data.specs.Extensions.{each_columns}
 use Rattle.lara_data.specs.Names.{Name, same_name, has}
-use Rattle.lara_data.specs.TableTypes.{Columns, key_names}
+use Rattle.lara_data.specs.TableTypes.{Columns}
 use Rattle.lara_data.specs.TypeRules.{too_many, names_of}
-use Rattle.lara_syntax.specs.declared.ast.AstName.{AstName}
 use Rattle.lara_syntax.specs.declared.ast_expr.AstExpr.{AstExpr}
 use Rattle.lara_syntax.specs.declared.ast_part.AstDef.{AstDef}
 use Rattle.lara_syntax.specs.declared.ast_part.AstKeyDef.{AstKeyDef}

@@ -1,9 +1,7 @@
 -- The rules of maps and promotes, one after the other.
-use Rattle.std.specs.Prelude.{◌≡◌, ◌≤◌, ◌<◌, ◌+◌, ℕ, Bool, true, false, cond, ◌&&◌, ◌||◌, nat_lt, List, [], ◌∷◌, ◌++◌, length, map, Result, Ok, Err}
+use Rattle.std.specs.Prelude.{◌≡◌, ◌<◌, ◌+◌, Bool, true, false, cond, ◌&&◌, ◌||◌, nat_lt, List, [], ◌∷◌, ◌++◌, length, map, Result, Ok, Err}
 use Rattle.std.specs.Bool.{IsTrue}
-use Rattle.std.proofs.Common.{refl, sym, ap, ◌∙◌, arith, length-append}
-use Rattle.std.proofs.lemmas.Bool.{ltb-false}
-use Rattle.std.proofs.lemmas.Bool.Decides.{nat_tests}
+use Rattle.std.proofs.Common.{refl, sym, ap, ◌∙◌, length-append}
 use Rattle.std.proofs.lemmas.List.{length-map}
 use Rattle.lara_base.specs.Results.{◌>>=◌}
 use Rattle.lara_data.specs.declared.arg.Def.{Def}
@@ -19,7 +17,7 @@ use Rattle.lara_data.specs.ExprTypes.{key_expr_type, val_expr_type, same_expr_ty
 use Rattle.lara_data.specs.ExtensionLaws.{map_type_rules, map_are_columns, promote_type_rules, promote_are_columns, rename_are_columns}
 use Rattle.lara_data.specs.Extensions.{each_columns, new_name, renamed_columns}
 use Rattle.lara_data.specs.Names.{has, among, distinct}
-use Rattle.lara_data.specs.TableTypes.{Columns, key_names, column_names, are_columns, most_columns}
+use Rattle.lara_data.specs.TableTypes.{Columns, key_names, are_columns, most_columns}
 use Rattle.lara_data.specs.TypeRules.{Typing, too_many, few_enough, def_types, defs_fit, def_names, map_fits, map_type, promote_fits, promote_type, old_names, names_of, rename_type}
 use Rattle.lara_types.specs.DefTypes.{def_fits}
 use Rattle.lara_types.proofs.ColumnFacts.{from_true, of_columns}

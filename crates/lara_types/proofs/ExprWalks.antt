@@ -1,5 +1,5 @@
 -- Expressions with places, form by form.
-use Rattle.std.specs.Prelude.{◌≡◌, ℕ, Bool, List, cond, nat_lt, ◌+◌, Ok}
+use Rattle.std.specs.Prelude.{◌≡◌, ℕ, Bool, List, cond, nat_lt, Ok}
 use Rattle.std.proofs.Common.{refl}
 use Rattle.lara_base.specs.Results.{◌>>=◌}
 use Rattle.lara_base.specs.Texts.{is_content}

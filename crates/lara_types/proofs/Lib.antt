@@ -19,4 +19,5 @@ pub mod SeenNames
 pub mod SizeFacts
 pub mod StoredColumns
 pub mod TypedFacts
+pub mod WorkedEach
 pub mod WorkedRefusals

@@ -1,9 +1,8 @@
 -- A literal that has its columns and entries is typed.
-use Rattle.std.specs.Prelude.{◌≡◌, ℕ, ◌<◌, ◌-◌, ◌^◌, min, true, false, not, List, [], ◌∷◌}
+use Rattle.std.specs.Prelude.{◌≡◌, true, false, not, List, [], ◌∷◌}
 use Rattle.std.specs.List.{list_all, list_any}
-use Rattle.std.proofs.Common.{refl, ap, ◌∙◌, arith}
-use Rattle.std.proofs.lemmas.Bool.{and_from, or_from, lt-leb}
-use Rattle.std.proofs.lemmas.Bool.Decides.{nat_tests}
+use Rattle.std.proofs.Common.{refl, ap}
+use Rattle.std.proofs.lemmas.Bool.{and_from, or_from}
 use Rattle.lara_key.specs.Keys.{has_key_type, tuple_has, key_is_over}
 use Rattle.lara_semiring.specs.Values.{has_type, value_is_over}
 use Rattle.lara_semiring.specs.Rows.{row_has, row_is_over}

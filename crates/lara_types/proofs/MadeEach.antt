@@ -1,6 +1,6 @@
 -- Maps, promotes and renames that are made where their rules are met.
-use Rattle.std.specs.Prelude.{◌≡◌, ◌<◌, ℕ, Bool, true, false, cond, List, [], ◌∷◌, ◌++◌, length, Option, Some, None, Result, Ok, Err}
-use Rattle.std.proofs.Common.{refl, sym, ap, ◌∙◌, subst}
+use Rattle.std.specs.Prelude.{◌≡◌, ℕ, Bool, true, false, cond, List, [], ◌∷◌, ◌++◌, Some, None, Result, Ok, Err}
+use Rattle.std.proofs.Common.{sym, ◌∙◌, subst}
 use Rattle.lara_data.specs.declared.node.Node.{Node}
 use Rattle.lara_data.specs.declared.node.Op.TheVariants as to
 use Rattle.lara_data.specs.declared.order.EachOp.TheVariants as each
@@ -9,7 +9,7 @@ use Rattle.lara_data.specs.declared.refusal.Kind.TheVariants.{NameTwice}
 use Rattle.lara_data.specs.declared.refusal.Refusal.{Refusal}
 use Rattle.lara_data.specs.declared.refusal.ReadFault.{ReadFault}
 use Rattle.lara_data.specs.Extensions.{each_columns, renamed_columns}
-use Rattle.lara_data.specs.Judgements.{Judged, Judges, refused}
+use Rattle.lara_data.specs.Judgements.{Judges, refused}
 use Rattle.lara_data.specs.Names.{distinct}
 use Rattle.lara_data.specs.TableTypes.{Columns}
 use Rattle.lara_data.specs.TypeRules.{names_of, map_type, promote_type}

@@ -1,5 +1,5 @@
 -- Refusals worked out by hand: each shows which rule comes first, and where it is broken.
-use Rattle.std.specs.Prelude.{◌≡◌, ◌-◌, ◌^◌, ℕ, List, [], ◌∷◌, Option, Some, None}
+use Rattle.std.specs.Prelude.{◌-◌, ◌^◌, ℕ, [], ◌∷◌, Some, None}
 use Rattle.std.proofs.Common.{refl}
 use Rattle.lara_key.specs.declared.key.KeyType.TheVariants as key_type
 use Rattle.lara_key.specs.declared.key.KeyVal.TheVariants as key_value
@@ -8,7 +8,6 @@ use Rattle.lara_semiring.specs.declared.value.Value.TheVariants as value
 use Rattle.lara_data.specs.declared.node.Node.{Node}
 use Rattle.lara_data.specs.declared.node.Op.TheVariants as to
 use Rattle.lara_data.specs.declared.refusal.Kind.TheVariants.{NoName, NameTwice, TypesDiffer, NotInRange, NoCommonValue, NotAKey, NotAnOrder}
-use Rattle.lara_data.specs.declared.refusal.Refusal.{Refusal}
 use Rattle.lara_data.specs.declared.script.Statement.TheVariants.{Assign, Print}
 use Rattle.lara_data.specs.declared.table_type.KeyCol.{KeyCol}
 use Rattle.lara_data.specs.declared.table_type.ValCol.{ValCol}
@@ -17,7 +16,6 @@ use Rattle.lara_data.specs.Plugins.{Plugins}
 use Rattle.lara_data.specs.TableTypes.{Columns, are_columns}
 use Rattle.lara_data.specs.TypeRules.{types_differ}
 use Rattle.lara_data.specs.TypedScripts.{is_order}
-use Rattle.lara_data.specs.TypedTrees.{type_named}
 use Rattle.lara_data.specs.Vals.{has_col, same_col}
 use Rattle.lara_syntax.specs.declared.ast.Ast.{Ast}
 use Rattle.lara_syntax.specs.declared.ast.AstKeyCol.{AstKeyCol}

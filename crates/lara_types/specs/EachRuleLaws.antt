@@ -1,18 +1,18 @@
 -- Which rules of maps, filters, promotes and renames are met.
-use Rattle.std.specs.Prelude.{◌≡◌, ◌<◌, ◌≤◌, ℕ, true, false, not, ◌&&◌, ◌||◌, nat_lt, nat_le, List, [], ◌∷◌, ◌++◌, length, map, Ok}
+use Rattle.std.specs.Prelude.{◌≡◌, ◌<◌, ◌≤◌, ℕ, true, false, not, ◌||◌, nat_lt, List, [], ◌∷◌, ◌++◌, length, map, Ok}
 use Rattle.std.proofs.Common.{refl, sym, ap, ◌∙◌, arith}
-use Rattle.std.proofs.lemmas.Bool.{and_parts, and_from, not-false}
+use Rattle.std.proofs.lemmas.Bool.{and_parts, and_from}
 use Rattle.std.proofs.lemmas.Bool.Decides.{nat_tests}
 use Rattle.std.proofs.lemmas.List.{length-map}
 use Rattle.lara_data.specs.declared.arg.Def.{Def}
 use Rattle.lara_data.specs.declared.expr_val.ExprType.{ExprType}
 use Rattle.lara_data.specs.declared.expr_val.ExprType.TheVariants.{Flag}
 use Rattle.lara_data.specs.declared.order.EachOp.TheVariants as each
-use Rattle.lara_data.specs.ExprLaws.{expr_found, expr_only, same_expr_type_itself, same_expr_type_is}
-use Rattle.lara_data.specs.ExprTypes.{key_expr_type, val_expr_type, same_expr_type, expr_type}
+use Rattle.lara_data.specs.ExprLaws.{expr_found, expr_only, same_expr_type_itself}
+use Rattle.lara_data.specs.ExprTypes.{key_expr_type, val_expr_type, same_expr_type}
 use Rattle.lara_data.specs.ExtensionLaws.{IsMap, IsFilter, IsPromote, IsRename, map_are_columns}
 use Rattle.lara_data.specs.Extensions.{each_columns, renamed_columns}
-use Rattle.lara_data.specs.Names.{Name, has, among, distinct, not_true}
+use Rattle.lara_data.specs.Names.{has, among, distinct, not_true}
 use Rattle.lara_data.specs.TableTypes.{Columns, key_names, val_names, are_columns, most_columns}
 use Rattle.lara_data.specs.TypeRuleLaws.{few_of}
 use Rattle.lara_data.specs.DistinctColumns.{distinct_names}
@@ -31,7 +31,7 @@ use Rattle.lara_types.specs.NameRules.{once_rules}
 use Rattle.lara_types.specs.NodeRuleLaws.{once_met, once_meets, none_twice}
 use Rattle.lara_types.specs.RuleLaws.{met_parts, met_from, first_met, rest_met, met_cons, met_end}
 use Rattle.lara_types.specs.Rules.{AllMet}
-use Rattle.lara_types.specs.Written.{plain, plain_expr, plain_def, plain_defs, plain_key_def, plain_pair, plain_pairs}
+use Rattle.lara_types.specs.Written.{plain, plain_expr, plain_def, plain_defs, plain_key_def, plain_pairs}
 
 -- ---- expressions
 

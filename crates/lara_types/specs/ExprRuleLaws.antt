@@ -9,7 +9,7 @@ use Rattle.lara_data.specs.declared.expr_val.ExprType.TheVariants as type
 use Rattle.lara_data.specs.declared.refusal.Kind.{Kind}
 use Rattle.lara_data.specs.declared.refusal.Kind.TheVariants.{NoName, NotInRange, TypesDiffer}
 use Rattle.lara_data.specs.declared.refusal.Refusal.{Refusal}
-use Rattle.lara_data.specs.ExprTypes.{column_type, same_expr_type, sides_type, not_type, branches_type, fun_type, ExprTyping, type_or, expr_type}
+use Rattle.lara_data.specs.ExprTypes.{column_type, sides_type, not_type, branches_type, fun_type, ExprTyping, type_or, expr_type}
 use Rattle.lara_data.specs.ExprLaws.{same_expr_type_is, same_expr_type_itself}
 use Rattle.lara_data.specs.Judgements.{Judged, refused}
 use Rattle.lara_data.specs.TableTypes.{Columns}
@@ -19,7 +19,7 @@ use Rattle.lara_syntax.specs.declared.ast_expr.AstForm.TheVariants as form
 use Rattle.lara_syntax.specs.declared.ast_expr.AstForm.TheVariants.{Two', Not', If', Fun'}
 use Rattle.lara_types.specs.Answered.{bind_ok_parts}
 use Rattle.lara_types.specs.CheckedExprs.{type_at, checked_form}
-use Rattle.lara_types.specs.ExprRules.{is_typed, is_of, form_typed, form_rules}
+use Rattle.lara_types.specs.ExprRules.{is_typed, is_of, form_rules}
 use Rattle.lara_types.specs.RuleLaws.{none_broken, met_from, first_here, first_behind, met_cons, met_end}
 use Rattle.lara_types.specs.Rules.{Rule, rule, AllMet, first_broken}
 use Rattle.lara_types.specs.Written.{plain_form}

@@ -1,6 +1,6 @@
 -- Which typed script a tree stands for, with no walk and no sequence of rules: each node has what is written, and its
 -- columns by the rules.
-use Rattle.std.specs.Prelude.{◌≡◌, ◌<◌, ◌-◌, ◌^◌, true, List, [], ◌∷◌, length, Option, Some, None}
+use Rattle.std.specs.Prelude.{◌≡◌, ◌<◌, true, List, [], ◌∷◌, length, Option, Some, None}
 use Rattle.lara_data.specs.declared.node.Node.{Node}
 use Rattle.lara_data.specs.declared.node.Op.TheVariants as to
 use Rattle.lara_data.specs.declared.schema.Schema.{Schema}

@@ -1,11 +1,10 @@
 -- The rules of each node of a tree and of each statement, in their order.
 use Rattle.std.specs.Prelude.{ℕ, Bool, true, false, not, List, [], ◌∷◌, ◌++◌, Option, Some, None}
 use Rattle.lara_data.specs.declared.refusal.Kind.{Kind}
-use Rattle.lara_data.specs.declared.refusal.Kind.TheVariants.{Unexpected, NoTable, NoName, NotAnOrder, NameTwice, TooManyColumns, TypesDiffer, NotInRange, NoCommonValue, NotAKey}
+use Rattle.lara_data.specs.declared.refusal.Kind.TheVariants.{Unexpected, NoTable, NoName, NotAnOrder, TooManyColumns, TypesDiffer, NotInRange, NoCommonValue}
 use Rattle.lara_data.specs.declared.schema.Schema.{Schema}
 use Rattle.lara_data.specs.declared.table_type.KeyCol.{KeyCol}
 use Rattle.lara_data.specs.declared.table_type.ValCol.{ValCol}
-use Rattle.lara_data.specs.Names.{Name, has}
 use Rattle.lara_data.specs.Algebra.{common_vals, join_columns, union_columns}
 use Rattle.lara_data.specs.Plugins.{Plugins}
 use Rattle.lara_data.specs.TableTypes.{Columns, key_names, are_columns}

@@ -1,13 +1,14 @@
 //! Nodes of maps, filters, promotes and renames. Their rules are looked at before anything is made of them.
-ghost use Rattle.std.specs.Prelude.{◌≡◌, ◌<◌, [], ◌∷◌, length, Ok};
+ghost use Rattle.std.specs.Prelude.{◌≡◌, ◌<◌, [], ◌∷◌, length, Ok, IfErr, IsSome};
 ghost use Rattle.lara_data.specs.declared.order.EachOp.TheVariants.{Map, Promote};
 ghost use Rattle.lara_data.specs.declared.refusal.Kind.TheVariants.{NameTwice};
 ghost use Rattle.lara_data.specs.Extensions.{each_columns, renamed_columns};
-ghost use Rattle.lara_data.specs.Judgements.{Judges};
+ghost use Rattle.lara_data.specs.Judgements.{Judges, NotMemory};
 ghost use Rattle.lara_data.specs.Names.{distinct};
 ghost use Rattle.lara_data.specs.TypeRules.{names_of, map_type, promote_type};
 ghost use Rattle.lara_types.specs.CheckedTrees.{typed, mapped, filtered, promoted, renamed};
-ghost use Rattle.lara_types.specs.Rules.{rule, by_rules};
+ghost use Rattle.lara_types.specs.EachRules.{filter_rules, promote_rules};
+ghost use Rattle.lara_types.specs.Rules.{rule, by_rules, first_broken};
 ghost use Rattle.lara_types.specs.Written.{plain_expr, plain_defs, plain_key_def, plain_pairs};
 
 use crate::each_places::{
@@ -34,9 +35,10 @@ fn filter_made(alloc: Global, a: Node, test: &AstExpr) -> Result<Node, ReadFault
     Ok(Node { ty, op })
 }
 
-/// A filter whose first word is at `at`.
+/// A filter whose first word is at `at`. A broken rule is never answered by want of memory.
 pub fn filter_of(alloc: Global, at: u32, a: Node, test: &AstExpr) -> Result<Node, ReadFault>
-    ensures { Judges (λ n. n) (filtered at a test.now) result }
+    ensures gives { Judges (λ n. n) (filtered at a test.now) result }
+    ensures sure { IsSome (first_broken (filter_rules at a.ty test.now)) → IfErr result NotMemory }
 {
     match filter_refusal(at, &a.ty, test) {
         Some(refusal) => Err(ReadFault::Refused(refusal)),
@@ -57,9 +59,10 @@ fn promote_made(alloc: Global, a: Node, def: &AstKeyDef) -> Result<Node, ReadFau
     Ok(Node { ty, op })
 }
 
-/// A promote whose first word is at `at`.
+/// A promote whose first word is at `at`. A broken rule is never answered by want of memory.
 pub fn promote_of(alloc: Global, at: u32, a: Node, def: &AstKeyDef) -> Result<Node, ReadFault>
-    ensures { Judges (λ n. n) (promoted at a def.now) result }
+    ensures gives { Judges (λ n. n) (promoted at a def.now) result }
+    ensures sure { IsSome (first_broken (promote_rules at a.ty def.now)) → IfErr result NotMemory }
 {
     match promote_refusal(at, &a.ty, def) {
         Some(refusal) => Err(ReadFault::Refused(refusal)),

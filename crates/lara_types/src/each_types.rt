@@ -211,11 +211,7 @@ fn promote_fault(a: &TableType, def: &KeyDef) -> Option<Kind>
 }
 
 /// The type of a promote whose rules are met.
-pub fn promote_columns(
-    alloc: Global,
-    a: &TableType,
-    def: &KeyDef,
-) -> Result<TableType, AllocError>
+pub fn promote_columns(alloc: Global, a: &TableType, def: &KeyDef) -> Result<TableType, AllocError>
     requires { promote_type a.now def.now ≡ Ok (each_columns (Promote def.now) a.now) }
     ensures { IfOk result (λ ty. ty ≡ each_columns (Promote def.now) a.now) }
 {

@@ -1,4 +1,5 @@
-//! The types of scripts: from the tree with places to typed statements, or the first refusal; and the types of operators.
+//! The types of scripts: from the tree with places to typed statements, or the first refusal; and the types of operators and
+//! of expressions.
 #![tactic(auto)]
 
 mod agg_places;
@@ -31,6 +32,8 @@ pub use scripts::check;
 mod tests;
 #[cfg(test)]
 mod tests_copies;
+#[cfg(test)]
+mod tests_each;
 #[cfg(test)]
 mod tests_made;
 #[cfg(test)]

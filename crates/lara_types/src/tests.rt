@@ -93,14 +93,14 @@ fn push_name(letters: &mut String, name: &Name) -> Result<(), AllocError> {
 }
 
 // Whether the rules give a type with columns of these names.
-fn gives(alloc: Global, typed: Typed, letters: &str) -> Result<bool, AllocError> {
+pub fn gives(alloc: Global, typed: Typed, letters: &str) -> Result<bool, AllocError> {
     match typed? {
         Ok(ty) => Ok(letters_of(alloc, &ty)?.as_str() == letters),
         Err(_) => Ok(false),
     }
 }
 
-fn refuses(typed: Typed, kind: Kind) -> Result<bool, AllocError> {
+pub fn refuses(typed: Typed, kind: Kind) -> Result<bool, AllocError> {
     match typed? {
         Ok(_) => Ok(false),
         Err(refused) => Ok(refused == kind),

@@ -341,17 +341,22 @@ fn apply(alloc: Global) -> Result<AstOp, AllocError> {
     Ok(AstOp::Apply(a, call))
 }
 
-// Whether the script that assigns the table of an operator is refused at the word of the operator.
-fn has_no_rule(alloc: Global, op: Result<AstOp, AllocError>) -> bool {
-    refuses(checked_op(alloc, op), 2, Kind::Unexpected)
+// Whether the script that assigns the table of an operator is refused for its operand, of which no table is known.
+fn lacks_its_operand(alloc: Global, op: Result<AstOp, AllocError>) -> bool {
+    refuses(checked_op(alloc, op), 9, Kind::NoName)
+}
+
+#[test]
+fn operands_come_before_operators(rt: HostRuntime) {
+    let alloc = rt.alloc();
+    assert!(rt; lacks_its_operand(alloc, map(alloc)));
+    assert!(rt; lacks_its_operand(alloc, filter(alloc)));
+    assert!(rt; lacks_its_operand(alloc, promote(alloc)));
+    assert!(rt; lacks_its_operand(alloc, rename(alloc)));
 }
 
 #[test]
 fn operators_without_a_rule_are_refused_at_their_word(rt: HostRuntime) {
     let alloc = rt.alloc();
-    assert!(rt; has_no_rule(alloc, map(alloc)));
-    assert!(rt; has_no_rule(alloc, filter(alloc)));
-    assert!(rt; has_no_rule(alloc, promote(alloc)));
-    assert!(rt; has_no_rule(alloc, rename(alloc)));
-    assert!(rt; has_no_rule(alloc, apply(alloc)));
+    assert!(rt; refuses(checked_op(alloc, apply(alloc)), 2, Kind::Unexpected));
 }

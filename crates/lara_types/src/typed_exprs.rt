@@ -3,9 +3,7 @@ ghost use Rattle.std.specs.Prelude.{◌≡◌};
 ghost use Rattle.lara_types.specs.CheckedExprs.{type_at, checked_expr};
 ghost use Rattle.lara_types.specs.ExprRules.{first_word};
 
-use crate::expr_types::{
-    branches_type, column_type, fun_type, is_in_range, not_type, sides_type,
-};
+use crate::expr_types::{branches_type, column_type, fun_type, is_in_range, not_type, sides_type};
 use crate::refuse::refusal;
 use lara_data::{ExprType, Kind, Refusal, TableType};
 use lara_syntax::{AstExpr, AstForm};

@@ -39,11 +39,7 @@ pub fn plain_expr(alloc: Global, expr: &AstExpr) -> Result<Expr, AllocError>
             let test = plain_expr(alloc, test.get())?;
             let yes = plain_expr(alloc, a.get())?;
             let no = plain_expr(alloc, b.get())?;
-            Ok(Expr::If(
-                boxed(alloc, test)?,
-                boxed(alloc, yes)?,
-                boxed(alloc, no)?,
-            ))
+            Ok(Expr::If(boxed(alloc, test)?, boxed(alloc, yes)?, boxed(alloc, no)?))
         }
         AstForm::Fun(fun, a) => {
             let argument = plain_expr(alloc, a.get())?;

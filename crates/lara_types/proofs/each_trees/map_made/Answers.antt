@@ -1,4 +1,4 @@
-use Rattle.std.proofs.Common.{arith, ◌≡◌, ap, length}
+use Rattle.std.proofs.Common.{arith}
 use Rattle.std.proofs.lemmas.List.{length-map}
 use Rattle.lara_types.specs.Written.{plain_def}
 use Rattle.lara_types.proofs.each_trees.map_made.Goals as goal
