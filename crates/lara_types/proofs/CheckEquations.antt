@@ -12,7 +12,7 @@ use Rattle.lara_syntax.specs.declared.ast_part.AstCall.{AstCall}
 use Rattle.lara_syntax.specs.declared.ast_part.AstDef.{AstDef}
 use Rattle.lara_syntax.specs.declared.ast_part.AstKeyDef.{AstKeyDef}
 use Rattle.lara_syntax.specs.declared.ast_part.AstPair.{AstPair}
-use Rattle.lara_types.specs.CheckedTrees.{loaded, assigned, literal, joined, united, summed, checked_op}
+use Rattle.lara_types.specs.CheckedTrees.{loaded, assigned, literal, joined, united, summed, mapped, filtered, promoted, renamed, checked_op}
 use Rattle.lara_data.specs.Judgements.{refused}
 use Rattle.lara_data.specs.Plugins.{Plugins}
 use Rattle.lara_types.specs.Sizes.{written_nodes}
@@ -43,19 +43,19 @@ module _ (ps : Plugins) (stored known : List Schema) (at : ℕ) where
   unfolding checked_op Rattle.lara_syntax.specs.declared.ast.AstOp.TheBlock.hidden-the_row-AstNode-0 denote.Hole.Carrier.hidden
   checked_Agg a ks = refl
 
-  pub checked_Map : (a : AstNode) (defs : List AstDef) → checked_op ps stored known at (Map a defs) ≡ refused at Unexpected
+  pub checked_Map : (a : AstNode) (defs : List AstDef) → checked_op ps stored known at (Map a defs) ≡ (checked_op ps stored known a.at a.op >>= λ x. mapped at x defs)
   unfolding checked_op Rattle.lara_syntax.specs.declared.ast.AstOp.TheBlock.hidden-the_row-AstNode-0 denote.Hole.Carrier.hidden
   checked_Map a defs = refl
 
-  pub checked_Filter : (a : AstNode) (test : AstExpr) → checked_op ps stored known at (Filter a test) ≡ refused at Unexpected
+  pub checked_Filter : (a : AstNode) (test : AstExpr) → checked_op ps stored known at (Filter a test) ≡ (checked_op ps stored known a.at a.op >>= λ x. filtered at x test)
   unfolding checked_op Rattle.lara_syntax.specs.declared.ast.AstOp.TheBlock.hidden-the_row-AstNode-0 denote.Hole.Carrier.hidden
   checked_Filter a test = refl
 
-  pub checked_Promote : (a : AstNode) (def : AstKeyDef) → checked_op ps stored known at (Promote a def) ≡ refused at Unexpected
+  pub checked_Promote : (a : AstNode) (def : AstKeyDef) → checked_op ps stored known at (Promote a def) ≡ (checked_op ps stored known a.at a.op >>= λ x. promoted at x def)
   unfolding checked_op Rattle.lara_syntax.specs.declared.ast.AstOp.TheBlock.hidden-the_row-AstNode-0 denote.Hole.Carrier.hidden
   checked_Promote a def = refl
 
-  pub checked_Rename : (a : AstNode) (pairs : List AstPair) → checked_op ps stored known at (Rename a pairs) ≡ refused at Unexpected
+  pub checked_Rename : (a : AstNode) (pairs : List AstPair) → checked_op ps stored known at (Rename a pairs) ≡ (checked_op ps stored known a.at a.op >>= λ x. renamed at x pairs)
   unfolding checked_op Rattle.lara_syntax.specs.declared.ast.AstOp.TheBlock.hidden-the_row-AstNode-0 denote.Hole.Carrier.hidden
   checked_Rename a pairs = refl
 
@@ -76,3 +76,19 @@ written_Union a b = refl
 pub written_Agg : (a : AstNode) (ks : List AstName) → written_nodes (Agg a ks) ≡ 1 + written_nodes a.op
 unfolding written_nodes Rattle.lara_syntax.specs.declared.ast.AstOp.TheBlock.hidden-the_row-AstNode-0 denote.Hole.Carrier.hidden
 written_Agg a ks = refl
+
+pub written_Map : (a : AstNode) (defs : List AstDef) → written_nodes (Map a defs) ≡ 1 + written_nodes a.op
+unfolding written_nodes Rattle.lara_syntax.specs.declared.ast.AstOp.TheBlock.hidden-the_row-AstNode-0 denote.Hole.Carrier.hidden
+written_Map a defs = refl
+
+pub written_Filter : (a : AstNode) (test : AstExpr) → written_nodes (Filter a test) ≡ 1 + written_nodes a.op
+unfolding written_nodes Rattle.lara_syntax.specs.declared.ast.AstOp.TheBlock.hidden-the_row-AstNode-0 denote.Hole.Carrier.hidden
+written_Filter a test = refl
+
+pub written_Promote : (a : AstNode) (def : AstKeyDef) → written_nodes (Promote a def) ≡ 1 + written_nodes a.op
+unfolding written_nodes Rattle.lara_syntax.specs.declared.ast.AstOp.TheBlock.hidden-the_row-AstNode-0 denote.Hole.Carrier.hidden
+written_Promote a def = refl
+
+pub written_Rename : (a : AstNode) (pairs : List AstPair) → written_nodes (Rename a pairs) ≡ 1 + written_nodes a.op
+unfolding written_nodes Rattle.lara_syntax.specs.declared.ast.AstOp.TheBlock.hidden-the_row-AstNode-0 denote.Hole.Carrier.hidden
+written_Rename a pairs = refl

@@ -15,7 +15,8 @@ use Rattle.lara_syntax.specs.declared.ast.AstValCol.{AstValCol}
 use Rattle.lara_base.specs.Results.{◌>>=◌, bind_same}
 use Rattle.lara_types.specs.Answered.{answered, ok_is}
 use Rattle.lara_types.specs.LiteralTypes.{one_more_name, one_more_val, distinct_names}
-use Rattle.lara_types.specs.NodeRules.{once_rules, column_rules}
+use Rattle.lara_types.specs.NameRules.{once_rules}
+use Rattle.lara_types.specs.NodeRules.{column_rules}
 use Rattle.lara_types.specs.RuleLaws.{first_here, first_behind, rules_refuse}
 use Rattle.lara_types.specs.Rules.{first_broken, unless, by_rules, rule}
 use Rattle.lara_types.specs.WalkLaws.{walk-append}
@@ -25,7 +26,7 @@ use Rattle.lara_types.specs.Written.{names_of, key_col, val_col, columns}
 -- ---- names
 
 -- steps on what is made of each item
-walk-map : {S A B E : Type 0} (step : S → B → Result S E) (f : A → B) (s : S) (xs : List A) → walk (λ t x. step t (f x)) s xs ≡ walk step s (map f xs)
+pub walk-map : {S A B E : Type 0} (step : S → B → Result S E) (f : A → B) (s : S) (xs : List A) → walk (λ t x. step t (f x)) s xs ≡ walk step s (map f xs)
 unfolding walk
 walk-map step f s [] = refl
 walk-map step f s (x ∷ xs) = bind_same (step s (f x)) (λ t. walk (λ u y. step u (f y)) t xs) (λ t. walk step t (map f xs)) (λ t. walk-map step f t xs)
@@ -38,11 +39,11 @@ one_walk keys vals =
     ∙ sym (walk-append one_more_name [] (map (λ (c : AstKeyCol). c.name) keys) (map (λ (c : AstValCol). c.name) vals))
 
 -- what a judgement refuses
-abbrev refusal_of : {A : Type 0} → Judged A → Option Refusal
+abbrev pub refusal_of : {A : Type 0} → Judged A → Option Refusal
 refusal_of (Ok x) = None
 refusal_of (Err r) = Some r
 
-names_judged : (seen : List Name) (ns : List AstName) → refusal_of (walk one_more_name seen ns) ≡ first_broken (once_rules seen ns)
+pub names_judged : (seen : List Name) (ns : List AstName) → refusal_of (walk one_more_name seen ns) ≡ first_broken (once_rules seen ns)
 unfolding walk first_broken once_rules
 names_judged seen [] = refl
 names_judged seen (n ∷ ns) =

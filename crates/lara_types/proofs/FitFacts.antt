@@ -14,14 +14,14 @@ use Rattle.lara_data.specs.TableTypes.{Columns}
 use Rattle.lara_data.specs.Tables.{Table}
 use Rattle.lara_data.specs.TypedScripts.{known_after}
 use Rattle.lara_data.specs.TypedTrees.{type_named}
-use Rattle.lara_data.proofs.FitEquations.{fits_Load, fits_Named, fits_Literal, fits_Join, fits_Union, fits_Agg}
+use Rattle.lara_data.proofs.FitEquations.{fits_Load, fits_Named, fits_Literal, fits_Join, fits_Union, fits_Agg, fits_Map, fits_Filter, fits_Promote, fits_Rename}
 use Rattle.lara_syntax.specs.declared.ast.Ast.{Ast}
 use Rattle.lara_syntax.specs.declared.ast.AstOp.{AstOp}
 use Rattle.lara_syntax.specs.declared.ast.AstOp.TheBlock.{end_of-AstNode, more_of-AstNode}
 use Rattle.lara_syntax.specs.declared.ast.AstOp.TheVariants.{Load, Named, Literal, Join', Union', Agg', Map', Filter', Promote', Rename', Apply'}
 use Rattle.lara_syntax.specs.declared.ast.AstStatement.{AstStatement}
 use Rattle.lara_syntax.specs.declared.ast.AstStatement.TheVariants as ast
-use Rattle.lara_types.specs.Written.{plain}
+use Rattle.lara_types.specs.Written.{plain, plain_expr, plain_defs, plain_key_def, plain_pairs}
 use Rattle.lara_types.specs.HasTypes.{OpHas, StatementHas, StatementsHave, HasTypes}
 
 -- a name of a known type has a table with these columns
@@ -48,10 +48,14 @@ module _ (ps : Plugins) (stored : List Schema) (db : Database) (of_stored : Tabl
       fits_by node.op (to.Union h.0 h.1) node.ty _ h.2 (fits_Union ps db h.0 h.1 node.ty) (op_fits known a h.0 h.4, op_fits known b h.1 h.5)
   op_fits known (Agg' _ (more_of-AstNode i a end_of-AstNode) ks) node h =
       fits_by node.op (to.Agg h.0 (plain ks)) node.ty _ h.1 (fits_Agg ps db h.0 (plain ks) node.ty) (op_fits known a h.0 h.3)
-  op_fits known (Map' _ (more_of-AstNode i a end_of-AstNode) defs) node h = absurd h
-  op_fits known (Filter' _ (more_of-AstNode i a end_of-AstNode) test) node h = absurd h
-  op_fits known (Promote' _ (more_of-AstNode i a end_of-AstNode) def) node h = absurd h
-  op_fits known (Rename' _ (more_of-AstNode i a end_of-AstNode) pairs) node h = absurd h
+  op_fits known (Map' _ (more_of-AstNode i a end_of-AstNode) ds) node h =
+      fits_by node.op (to.Map h.0 (plain_defs ds)) node.ty _ h.1 (fits_Map ps db h.0 (plain_defs ds) node.ty) (op_fits known a h.0 h.4)
+  op_fits known (Filter' _ (more_of-AstNode i a end_of-AstNode) test) node h =
+      fits_by node.op (to.Filter h.0 (plain_expr test)) node.ty _ h.1 (fits_Filter ps db h.0 (plain_expr test) node.ty) (op_fits known a h.0 h.3)
+  op_fits known (Promote' _ (more_of-AstNode i a end_of-AstNode) def) node h =
+      fits_by node.op (to.Promote h.0 (plain_key_def def)) node.ty _ h.1 (fits_Promote ps db h.0 (plain_key_def def) node.ty) (op_fits known a h.0 h.3)
+  op_fits known (Rename' _ (more_of-AstNode i a end_of-AstNode) pairs) node h =
+      fits_by node.op (to.Rename h.0 (plain_pairs pairs)) node.ty _ h.1 (fits_Rename ps db h.0 (plain_pairs pairs) node.ty) (op_fits known a h.0 h.3)
   op_fits known (Apply' _ (more_of-AstNode i a end_of-AstNode) call) node h = absurd h
 
   statement_fits : (known : List Schema) (x : AstStatement) (s : Statement) → StatementHas ps stored known x s → StatementFits ps db s

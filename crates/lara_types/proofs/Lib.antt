@@ -3,9 +3,16 @@ pub mod CheckedScripts
 pub mod ColumnFacts
 pub mod ColumnNames
 pub mod ColumnTypes
+pub mod DefinedWalks
+pub mod EachPlaces
+pub mod EachTypes
+pub mod EachWalks
 pub mod EntryValues
+pub mod ExprWalks
 pub mod FitFacts
+pub mod ListedNames
 pub mod LiteralFacts
+pub mod MadeEach
 pub mod MadeNodes
 pub mod PlacedNames
 pub mod SeenNames

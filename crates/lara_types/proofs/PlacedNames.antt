@@ -11,7 +11,7 @@ use Rattle.lara_data.specs.declared.table_type.KeyCol.{KeyCol}
 use Rattle.lara_data.specs.TableTypes.{key_names}
 use Rattle.lara_data.specs.declared.refusal.Kind.TheVariants.{NameTwice, NotAKey}
 use Rattle.lara_data.specs.declared.refusal.Refusal.{Refusal}
-use Rattle.lara_types.specs.NodeRules.{key_rules, once_rules}
+use Rattle.lara_types.specs.NameRules.{key_rules, once_rules}
 use Rattle.lara_types.specs.Rules.{first_broken}
 use Rattle.lara_types.specs.WalkLaws.{map-more}
 use Rattle.lara_types.specs.Written.{plain}

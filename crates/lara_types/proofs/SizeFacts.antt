@@ -2,7 +2,12 @@
 use Rattle.std.specs.Prelude.{◌≡◌, ◌+◌, List, [], ◌∷◌, length}
 use Rattle.std.proofs.Common.{refl, sym, ap, ◌∙◌, suc}
 use Rattle.std.proofs.lemmas.List.Sums.{sum_by-cons}
+use Rattle.lara_data.specs.declared.arg.Def.{Def}
+use Rattle.lara_data.specs.declared.arg.KeyDef.{KeyDef}
+use Rattle.lara_data.specs.declared.arg.NamePair.{NamePair}
+use Rattle.lara_data.specs.declared.expr.Expr.{Expr}
 use Rattle.lara_data.specs.declared.node.Node.{Node}
+use Rattle.lara_data.specs.declared.node.Op.TheVariants as to
 use Rattle.lara_data.specs.declared.schema.Schema.{Schema}
 use Rattle.lara_data.specs.declared.script.Statement.{Statement}
 use Rattle.lara_data.specs.Plugins.{Plugins}
@@ -15,9 +20,26 @@ use Rattle.lara_syntax.specs.declared.ast.AstOp.TheBlock.{end_of-AstNode, more_o
 use Rattle.lara_syntax.specs.declared.ast.AstOp.TheVariants.{Load, Named, Literal, Join', Union', Agg', Map', Filter', Promote', Rename', Apply'}
 use Rattle.lara_syntax.specs.declared.ast.AstStatement.{AstStatement}
 use Rattle.lara_syntax.specs.declared.ast.AstStatement.TheVariants as ast
-use Rattle.lara_types.specs.Written.{plain}
+use Rattle.lara_types.specs.Written.{plain, plain_expr, plain_defs, plain_key_def, plain_pairs}
 use Rattle.lara_types.specs.HasTypes.{OpHas, StatementHas, StatementsHave, HasTypes}
 use Rattle.lara_types.specs.Sizes.{written_nodes, nodes_written, nodes_typed, all_written, all_typed}
+
+-- one node over another's
+nodes_Map : (a : Node) (ds : List Def) → nodes (to.Map a ds) ≡ 1 + nodes a.op
+unfolding nodes Rattle.lara_data.specs.declared.node.Op.TheBlock.hidden-the_row-Node-0 denote.Hole.Carrier.hidden
+nodes_Map a ds = refl
+
+nodes_Filter : (a : Node) (e : Expr) → nodes (to.Filter a e) ≡ 1 + nodes a.op
+unfolding nodes Rattle.lara_data.specs.declared.node.Op.TheBlock.hidden-the_row-Node-0 denote.Hole.Carrier.hidden
+nodes_Filter a e = refl
+
+nodes_Promote : (a : Node) (d : KeyDef) → nodes (to.Promote a d) ≡ 1 + nodes a.op
+unfolding nodes Rattle.lara_data.specs.declared.node.Op.TheBlock.hidden-the_row-Node-0 denote.Hole.Carrier.hidden
+nodes_Promote a d = refl
+
+nodes_Rename : (a : Node) (ps : List NamePair) → nodes (to.Rename a ps) ≡ 1 + nodes a.op
+unfolding nodes Rattle.lara_data.specs.declared.node.Op.TheBlock.hidden-the_row-Node-0 denote.Hole.Carrier.hidden
+nodes_Rename a ps = refl
 
 -- a typed tree has as many nodes as what is written
 same_nodes : (ps : Plugins) (stored known : List Schema) (tree : AstOp) (node : Node) → OpHas ps stored known tree node → nodes node.op ≡ written_nodes tree
@@ -31,10 +53,14 @@ same_nodes ps stored known (Union' _ (more_of-AstNode i a end_of-AstNode) _ (mor
     ap nodes h.2 ∙ nodes_Union h.0 h.1 ∙ (λ i. 1 + (same_nodes ps stored known a h.0 h.4 i + same_nodes ps stored known b h.1 h.5 i))
 same_nodes ps stored known (Agg' _ (more_of-AstNode i a end_of-AstNode) ks) node h =
     ap nodes h.1 ∙ nodes_Agg h.0 (plain ks) ∙ ap (λ n. 1 + n) (same_nodes ps stored known a h.0 h.3)
-same_nodes ps stored known (Map' _ (more_of-AstNode i a end_of-AstNode) defs) node h = absurd h
-same_nodes ps stored known (Filter' _ (more_of-AstNode i a end_of-AstNode) test) node h = absurd h
-same_nodes ps stored known (Promote' _ (more_of-AstNode i a end_of-AstNode) def) node h = absurd h
-same_nodes ps stored known (Rename' _ (more_of-AstNode i a end_of-AstNode) pairs) node h = absurd h
+same_nodes ps stored known (Map' _ (more_of-AstNode i a end_of-AstNode) ds) node h =
+    ap nodes h.1 ∙ nodes_Map h.0 (plain_defs ds) ∙ ap (λ n. 1 + n) (same_nodes ps stored known a h.0 h.4)
+same_nodes ps stored known (Filter' _ (more_of-AstNode i a end_of-AstNode) test) node h =
+    ap nodes h.1 ∙ nodes_Filter h.0 (plain_expr test) ∙ ap (λ n. 1 + n) (same_nodes ps stored known a h.0 h.3)
+same_nodes ps stored known (Promote' _ (more_of-AstNode i a end_of-AstNode) def) node h =
+    ap nodes h.1 ∙ nodes_Promote h.0 (plain_key_def def) ∙ ap (λ n. 1 + n) (same_nodes ps stored known a h.0 h.3)
+same_nodes ps stored known (Rename' _ (more_of-AstNode i a end_of-AstNode) pairs) node h =
+    ap nodes h.1 ∙ nodes_Rename h.0 (plain_pairs pairs) ∙ ap (λ n. 1 + n) (same_nodes ps stored known a h.0 h.3)
 same_nodes ps stored known (Apply' _ (more_of-AstNode i a end_of-AstNode) call) node h = absurd h
 
 same_in_statement : (ps : Plugins) (stored known : List Schema) (x : AstStatement) (s : Statement) → StatementHas ps stored known x s → nodes_typed s ≡ nodes_written x

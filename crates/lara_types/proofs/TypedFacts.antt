@@ -1,8 +1,9 @@
 -- What a tree with places stands for is typed.
 use Rattle.std.specs.Prelude.{◌≡◌, true, false, cond, ◌==◌, fold, List, [], ◌∷◌, length, Option, Some, None}
 use Rattle.std.specs.List.{list_all}
-use Rattle.std.proofs.Common.{refl, sym, ap, ◌∙◌, subst}
+use Rattle.std.proofs.Common.{refl, sym, ap, ◌∙◌, arith, subst}
 use Rattle.std.proofs.lemmas.Bool.{eq-eqb, and_from}
+use Rattle.std.proofs.lemmas.List.{length-map}
 use Rattle.lara_data.specs.declared.node.Node.{Node}
 use Rattle.lara_data.specs.declared.node.Op.{Op}
 use Rattle.lara_data.specs.declared.node.Op.TheVariants as to
@@ -14,7 +15,7 @@ use Rattle.lara_data.specs.TableTypes.{Columns, key_names, are_columns}
 use Rattle.lara_data.specs.TypedScripts.{is_order, PrintTyped, StoreTyped, StatementTyped, known_after, AllTyped, ScriptTyped}
 use Rattle.lara_data.specs.Newest.{newer, newest}
 use Rattle.lara_data.specs.TypedTrees.{type_named, OpTyped}
-use Rattle.lara_data.proofs.TypedEquations.{typed_Load, typed_Named, typed_Literal, typed_Join, typed_Union, typed_Agg}
+use Rattle.lara_data.proofs.TypedEquations.{typed_Load, typed_Named, typed_Literal, typed_Join, typed_Union, typed_Agg, typed_Map, typed_Filter, typed_Promote, typed_Rename}
 use Rattle.lara_syntax.specs.declared.ast.Ast.{Ast}
 use Rattle.lara_syntax.specs.declared.ast.AstBy.{AstBy}
 use Rattle.lara_syntax.specs.declared.ast.AstOp.{AstOp}
@@ -22,9 +23,9 @@ use Rattle.lara_syntax.specs.declared.ast.AstOp.TheBlock.{end_of-AstNode, more_o
 use Rattle.lara_syntax.specs.declared.ast.AstOp.TheVariants.{Load, Named, Literal, Join', Union', Agg', Map', Filter', Promote', Rename', Apply'}
 use Rattle.lara_syntax.specs.declared.ast.AstStatement.{AstStatement}
 use Rattle.lara_syntax.specs.declared.ast.AstStatement.TheVariants as ast
-use Rattle.lara_types.specs.Written.{plain}
+use Rattle.lara_types.specs.Written.{plain, plain_def, plain_expr, plain_defs, plain_key_def, plain_pairs}
 use Rattle.lara_types.specs.HasTypes.{OpHas, IsOrder, StatementHas, StatementsHave, HasTypes}
-use Rattle.lara_types.specs.RuleTypes.{is_join_type, is_union_type, is_agg_type}
+use Rattle.lara_types.specs.RuleTypes.{is_join_type, is_union_type, is_agg_type, is_map_type, is_filter_type, is_promote_type, is_rename_type}
 use Rattle.lara_types.specs.StoredTypes.{AllColumns}
 use Rattle.lara_types.proofs.ColumnFacts.{among_all}
 use Rattle.lara_types.proofs.LiteralFacts.{is_literal}
@@ -69,10 +70,14 @@ module _ (ps : Plugins) (stored : List Schema) (of_stored : AllColumns stored) (
       typed_by node.op (to.Union h.0 h.1) node.ty _ h.2 (typed_Union known h.0 h.1 node.ty) (is_union_type h.0.ty h.1.ty node.ty h.3, op_typed a h.0 h.4, op_typed b h.1 h.5)
   op_typed (Agg' _ (more_of-AstNode i a end_of-AstNode) ks) node h =
       typed_by node.op (to.Agg h.0 (plain ks)) node.ty _ h.1 (typed_Agg known h.0 (plain ks) node.ty) (is_agg_type h.0.ty (plain ks) node.ty h.2, op_typed a h.0 h.3)
-  op_typed (Map' _ (more_of-AstNode i a end_of-AstNode) defs) node h = absurd h
-  op_typed (Filter' _ (more_of-AstNode i a end_of-AstNode) test) node h = absurd h
-  op_typed (Promote' _ (more_of-AstNode i a end_of-AstNode) def) node h = absurd h
-  op_typed (Rename' _ (more_of-AstNode i a end_of-AstNode) pairs) node h = absurd h
+  op_typed (Map' _ (more_of-AstNode i a end_of-AstNode) ds) node h =
+      typed_by node.op (to.Map h.0 (plain_defs ds)) node.ty _ h.1 (typed_Map known h.0 (plain_defs ds) node.ty) (omega (arith, h.2, length-map ds plain_def), is_map_type h.0.ty (plain_defs ds) node.ty h.3, op_typed a h.0 h.4)
+  op_typed (Filter' _ (more_of-AstNode i a end_of-AstNode) test) node h =
+      typed_by node.op (to.Filter h.0 (plain_expr test)) node.ty _ h.1 (typed_Filter known h.0 (plain_expr test) node.ty) (is_filter_type h.0.ty (plain_expr test) node.ty h.2, op_typed a h.0 h.3)
+  op_typed (Promote' _ (more_of-AstNode i a end_of-AstNode) def) node h =
+      typed_by node.op (to.Promote h.0 (plain_key_def def)) node.ty _ h.1 (typed_Promote known h.0 (plain_key_def def) node.ty) (is_promote_type h.0.ty (plain_key_def def) node.ty h.2, op_typed a h.0 h.3)
+  op_typed (Rename' _ (more_of-AstNode i a end_of-AstNode) pairs) node h =
+      typed_by node.op (to.Rename h.0 (plain_pairs pairs)) node.ty _ h.1 (typed_Rename known h.0 (plain_pairs pairs) node.ty) (is_rename_type h.0.ty (plain_pairs pairs) node.ty h.2, op_typed a h.0 h.3)
   op_typed (Apply' _ (more_of-AstNode i a end_of-AstNode) call) node h = absurd h
 
 -- ---- scripts

@@ -33,7 +33,8 @@ use Rattle.lara_types.specs.Checks.{checked}
 use Rattle.lara_types.specs.Found.{checked_has}
 use Rattle.lara_types.specs.HasTypes.{HasTypes}
 use Rattle.lara_types.specs.LiteralValues.{key_values, row_values}
-use Rattle.lara_types.specs.NodeRules.{key_rules, once_rules, join_rules, agg_rules, key_kind_rules, val_kind_rules, key_range_rules, val_range_rules, entry_rules, entries_rules, literal_rules, print_rules, rules_of}
+use Rattle.lara_types.specs.NameRules.{key_rules, once_rules}
+use Rattle.lara_types.specs.NodeRules.{join_rules, agg_rules, key_kind_rules, val_kind_rules, key_range_rules, val_range_rules, entry_rules, entries_rules, literal_rules, print_rules, rules_of}
 use Rattle.lara_types.specs.Refused.{operands, NodesHave, NodeRefused, here, below, Refused}
 use Rattle.lara_types.specs.RefusedLaws.{script_refused}
 use Rattle.lara_types.specs.RuleLaws.{is_broken}

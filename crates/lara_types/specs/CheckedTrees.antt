@@ -5,8 +5,10 @@ use Rattle.lara_data.specs.declared.node.Node.{Node}
 use Rattle.lara_data.specs.declared.node.Op.{Op}
 use Rattle.lara_data.specs.declared.node.Op.TheVariants as to
 use Rattle.lara_data.specs.declared.refusal.Kind.TheVariants.{Unexpected, NoTable, NoName}
+use Rattle.lara_data.specs.declared.order.EachOp.TheVariants as each
 use Rattle.lara_data.specs.declared.schema.Schema.{Schema}
 use Rattle.lara_data.specs.Algebra.{join_columns, union_columns, agg_columns}
+use Rattle.lara_data.specs.Extensions.{each_columns, renamed_columns}
 use Rattle.lara_data.specs.Plugins.{Plugins}
 use Rattle.lara_data.specs.TableTypes.{Columns}
 use Rattle.lara_data.specs.TypedTrees.{type_named}
@@ -17,12 +19,17 @@ use Rattle.lara_syntax.specs.declared.ast.AstOp.{AstOp}
 use Rattle.lara_syntax.specs.declared.ast.AstOp.TheBlock.{end_of-AstNode, more_of-AstNode}
 use Rattle.lara_syntax.specs.declared.ast.AstOp.TheVariants.{Load, Named, Literal, Join', Union', Agg', Map', Filter', Promote', Rename', Apply'}
 use Rattle.lara_syntax.specs.declared.ast.AstType.{AstType}
+use Rattle.lara_syntax.specs.declared.ast_expr.AstExpr.{AstExpr}
+use Rattle.lara_syntax.specs.declared.ast_part.AstDef.{AstDef}
+use Rattle.lara_syntax.specs.declared.ast_part.AstKeyDef.{AstKeyDef}
+use Rattle.lara_syntax.specs.declared.ast_part.AstPair.{AstPair}
 use Rattle.lara_data.specs.Judgements.{Judged, refused}
 use Rattle.lara_base.specs.Results.{◌>>=◌}
+use Rattle.lara_types.specs.EachRules.{map_rules, filter_rules, promote_rules, rename_rules}
 use Rattle.lara_types.specs.LiteralValues.{entry_value}
 use Rattle.lara_types.specs.NodeRules.{known_rules, literal_rules, join_rules, union_rules, agg_rules}
 use Rattle.lara_types.specs.Rules.{by_rules}
-use Rattle.lara_types.specs.Written.{plain, columns}
+use Rattle.lara_types.specs.Written.{plain, columns, plain_expr, plain_defs, plain_key_def, plain_pairs}
 
 -- an operator with the columns of its table
 abbrev pub typed : Columns → Op → Node
@@ -57,6 +64,22 @@ united at a b = by_rules (union_rules at a.ty b.ty) (typed (union_columns a.ty b
 abbrev pub summed : Node → List AstName → Judged Node
 summed a ks = by_rules (agg_rules a.ty ks) (typed (agg_columns a.ty (plain ks)) (to.Agg a (plain ks)))
 
+-- a map
+abbrev pub mapped : ℕ → Node → List AstDef → Judged Node
+mapped at a ds = by_rules (map_rules at a.ty ds) (typed (each_columns (each.Map (plain_defs ds)) a.ty) (to.Map a (plain_defs ds)))
+
+-- a filter
+abbrev pub filtered : ℕ → Node → AstExpr → Judged Node
+filtered at a e = by_rules (filter_rules at a.ty e) (typed a.ty (to.Filter a (plain_expr e)))
+
+-- a promote
+abbrev pub promoted : ℕ → Node → AstKeyDef → Judged Node
+promoted at a d = by_rules (promote_rules at a.ty d) (typed (each_columns (each.Promote (plain_key_def d)) a.ty) (to.Promote a (plain_key_def d)))
+
+-- a rename
+abbrev pub renamed : ℕ → Node → List AstPair → Judged Node
+renamed at a pairs = by_rules (rename_rules at a.ty pairs) (typed (renamed_columns (plain_pairs pairs) a.ty) (to.Rename a (plain_pairs pairs)))
+
 -- What makes a table, with its first word at this place. The first list has the stored names, the second one those that
 -- the script assigned so far. What has no words in the grammar yet is refused at its place.
 unfoldable pub checked_op : Plugins → List Schema → List Schema → ℕ → AstOp → Judged Node
@@ -74,11 +97,19 @@ checked_op ps stored known at (Union' _ (more_of-AstNode i a end_of-AstNode) _ (
 checked_op ps stored known at (Agg' _ (more_of-AstNode i a end_of-AstNode) ks) = do
   x ← checked_op ps stored known i a
   summed x ks
+checked_op ps stored known at (Map' _ (more_of-AstNode i a end_of-AstNode) defs) = do
+  x ← checked_op ps stored known i a
+  mapped at x defs
+checked_op ps stored known at (Filter' _ (more_of-AstNode i a end_of-AstNode) test) = do
+  x ← checked_op ps stored known i a
+  filtered at x test
+checked_op ps stored known at (Promote' _ (more_of-AstNode i a end_of-AstNode) def) = do
+  x ← checked_op ps stored known i a
+  promoted at x def
+checked_op ps stored known at (Rename' _ (more_of-AstNode i a end_of-AstNode) pairs) = do
+  x ← checked_op ps stored known i a
+  renamed at x pairs
 -- no words yet
-checked_op ps stored known at (Map' _ (more_of-AstNode i a end_of-AstNode) defs) = refused at Unexpected
-checked_op ps stored known at (Filter' _ (more_of-AstNode i a end_of-AstNode) test) = refused at Unexpected
-checked_op ps stored known at (Promote' _ (more_of-AstNode i a end_of-AstNode) def) = refused at Unexpected
-checked_op ps stored known at (Rename' _ (more_of-AstNode i a end_of-AstNode) pairs) = refused at Unexpected
 checked_op ps stored known at (Apply' _ (more_of-AstNode i a end_of-AstNode) call) = refused at Unexpected
 
 -- the typed tree of a table

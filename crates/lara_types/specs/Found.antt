@@ -5,10 +5,13 @@ use Rattle.std.proofs.lemmas.List.{append-nil}
 use Rattle.lara_data.specs.declared.node.Node.{Node}
 use Rattle.lara_data.specs.declared.node.Op.TheVariants as to
 use Rattle.lara_data.specs.declared.refusal.Kind.TheVariants.{NoTable, NoName}
+use Rattle.lara_data.specs.declared.order.EachOp.TheVariants as each
 use Rattle.lara_data.specs.declared.schema.Schema.{Schema}
 use Rattle.lara_data.specs.declared.script.Statement.{Statement}
 use Rattle.lara_data.specs.declared.script.Statement.TheVariants.{Assign, Print, Store}
 use Rattle.lara_data.specs.Algebra.{join_columns, union_columns, agg_columns}
+use Rattle.lara_data.specs.ExtensionLaws.{IsMap, IsFilter, IsPromote, IsRename}
+use Rattle.lara_data.specs.Extensions.{each_columns, renamed_columns}
 use Rattle.lara_data.specs.Names.{Name}
 use Rattle.lara_data.specs.Plugins.{Plugins}
 use Rattle.lara_data.specs.TableTypes.{Columns}
@@ -25,8 +28,10 @@ use Rattle.lara_syntax.specs.declared.ast.AstStatement.{AstStatement}
 use Rattle.lara_syntax.specs.declared.ast.AstStatement.TheVariants as ast
 use Rattle.lara_base.specs.Results.{◌>>=◌}
 use Rattle.lara_types.specs.Answered.{ok_is, bind_ok_parts}
-use Rattle.lara_types.specs.CheckedTrees.{typed, columns_in, joined, united, summed, checked_op, checked_node}
+use Rattle.lara_types.specs.CheckedTrees.{typed, columns_in, joined, united, summed, mapped, filtered, promoted, renamed, checked_op, checked_node}
 use Rattle.lara_types.specs.Checks.{order_in, printed, checked_statement, Progress, at_start, one_more, checked}
+use Rattle.lara_types.specs.EachRuleLaws.{map_met, filter_met, promote_met, rename_met}
+use Rattle.lara_types.specs.EachRules.{map_rules, filter_rules, promote_rules, rename_rules}
 use Rattle.lara_types.specs.HasTypes.{OpHas, IsOrder, StatementHas, StatementsHave, HasTypes}
 use Rattle.lara_types.specs.LiteralLaws.{literal_found}
 use Rattle.lara_types.specs.NodeRuleLaws.{join_met, union_met, agg_met, known_met, order_met}
@@ -34,7 +39,7 @@ use Rattle.lara_types.specs.NodeRules.{known_rules, join_rules, union_rules, agg
 use Rattle.lara_types.specs.RuleLaws.{met_parts, rules_met}
 use Rattle.lara_types.specs.Rules.{AllMet}
 use Rattle.lara_types.specs.Walks.{walk}
-use Rattle.lara_types.specs.Written.{plain}
+use Rattle.lara_types.specs.Written.{plain, plain_expr, plain_defs, plain_key_def, plain_pairs}
 
 -- ---- trees
 
@@ -64,10 +69,23 @@ module _ (ps : Plugins) (stored known : List Schema) where
       let x = bind_ok_parts (checked_op ps stored known i a) (λ x. summed x ks) node e in
       let p = rules_met (agg_rules x.0.ty ks) (typed (agg_columns x.0.ty (plain ks)) (to.Agg x.0 (plain ks))) node x.2 in
       (x.0, ap (λ (m : Node). m.op) (sym p.1), subst (λ (m : Node). IsAgg x.0.ty (plain ks) m.ty) p.1 (agg_met x.0.ty ks p.0), op_found i a x.0 x.1)
-  op_found at (Map' _ (more_of-AstNode i a end_of-AstNode) defs) node e = cc
-  op_found at (Filter' _ (more_of-AstNode i a end_of-AstNode) test) node e = cc
-  op_found at (Promote' _ (more_of-AstNode i a end_of-AstNode) def) node e = cc
-  op_found at (Rename' _ (more_of-AstNode i a end_of-AstNode) pairs) node e = cc
+  op_found at (Map' _ (more_of-AstNode i a end_of-AstNode) ds) node e =
+      let x = bind_ok_parts (checked_op ps stored known i a) (λ x. mapped at x ds) node e in
+      let p = rules_met (map_rules at x.0.ty ds) (typed (each_columns (each.Map (plain_defs ds)) x.0.ty) (to.Map x.0 (plain_defs ds))) node x.2 in
+      let met = map_met at x.0.ty ds p.0 in
+      (x.0, ap (λ (m : Node). m.op) (sym p.1), met.0, subst (λ (m : Node). IsMap x.0.ty (plain_defs ds) m.ty) p.1 met.1, op_found i a x.0 x.1)
+  op_found at (Filter' _ (more_of-AstNode i a end_of-AstNode) test) node e =
+      let x = bind_ok_parts (checked_op ps stored known i a) (λ x. filtered at x test) node e in
+      let p = rules_met (filter_rules at x.0.ty test) (typed x.0.ty (to.Filter x.0 (plain_expr test))) node x.2 in
+      (x.0, ap (λ (m : Node). m.op) (sym p.1), subst (λ (m : Node). IsFilter x.0.ty (plain_expr test) m.ty) p.1 (filter_met at x.0.ty test p.0), op_found i a x.0 x.1)
+  op_found at (Promote' _ (more_of-AstNode i a end_of-AstNode) def) node e =
+      let x = bind_ok_parts (checked_op ps stored known i a) (λ x. promoted at x def) node e in
+      let p = rules_met (promote_rules at x.0.ty def) (typed (each_columns (each.Promote (plain_key_def def)) x.0.ty) (to.Promote x.0 (plain_key_def def))) node x.2 in
+      (x.0, ap (λ (m : Node). m.op) (sym p.1), subst (λ (m : Node). IsPromote x.0.ty (plain_key_def def) m.ty) p.1 (promote_met at x.0.ty def p.0), op_found i a x.0 x.1)
+  op_found at (Rename' _ (more_of-AstNode i a end_of-AstNode) pairs) node e =
+      let x = bind_ok_parts (checked_op ps stored known i a) (λ x. renamed at x pairs) node e in
+      let p = rules_met (rename_rules at x.0.ty pairs) (typed (renamed_columns (plain_pairs pairs) x.0.ty) (to.Rename x.0 (plain_pairs pairs))) node x.2 in
+      (x.0, ap (λ (m : Node). m.op) (sym p.1), subst (λ (m : Node). IsRename x.0.ty (plain_pairs pairs) m.ty) p.1 (rename_met at x.0.ty pairs p.0), op_found i a x.0 x.1)
   op_found at (Apply' _ (more_of-AstNode i a end_of-AstNode) call) node e = cc
 
 -- ---- scripts

@@ -1,6 +1,6 @@
 -- Which typed script a tree stands for, with no walk and no sequence of rules: each node has what is written, and its
 -- columns by the rules.
-use Rattle.std.specs.Prelude.{◌≡◌, ◌<◌, ◌-◌, ◌^◌, true, List, [], ◌∷◌, Option, Some, None}
+use Rattle.std.specs.Prelude.{◌≡◌, ◌<◌, ◌-◌, ◌^◌, true, List, [], ◌∷◌, length, Option, Some, None}
 use Rattle.lara_data.specs.declared.node.Node.{Node}
 use Rattle.lara_data.specs.declared.node.Op.TheVariants as to
 use Rattle.lara_data.specs.declared.schema.Schema.{Schema}
@@ -8,6 +8,7 @@ use Rattle.lara_data.specs.declared.script.Statement.{Statement}
 use Rattle.lara_data.specs.declared.script.Statement.TheVariants.{Assign, Print, Store}
 use Rattle.lara_data.specs.declared.table_type.KeyCol.{KeyCol}
 use Rattle.lara_data.specs.declared.table_type.ValCol.{ValCol}
+use Rattle.lara_data.specs.ExtensionLaws.{IsMap, IsFilter, IsPromote, IsRename}
 use Rattle.lara_data.specs.KeyedTables.{Row}
 use Rattle.lara_data.specs.Names.{Name, Tuple}
 use Rattle.lara_data.specs.Plugins.{Plugins}
@@ -28,7 +29,7 @@ use Rattle.lara_syntax.specs.declared.ast.AstStatement.{AstStatement}
 use Rattle.lara_syntax.specs.declared.ast.AstStatement.TheVariants as ast
 use Rattle.lara_syntax.specs.declared.ast.AstType.{AstType}
 use Rattle.lara_syntax.specs.Literals.{IsKey, IsVal}
-use Rattle.lara_types.specs.Written.{plain, columns}
+use Rattle.lara_types.specs.Written.{plain, columns, plain_expr, plain_defs, plain_key_def, plain_pairs}
 
 -- ---- literals
 
@@ -72,11 +73,15 @@ OpHas ps stored known (Union' _ (more_of-AstNode i a end_of-AstNode) _ (more_of-
     (x : Node) × (y : Node) × (node.op ≡ to.Union x y) × IsUnion x.ty y.ty node.ty × OpHas ps stored known a x × OpHas ps stored known b y
 OpHas ps stored known (Agg' _ (more_of-AstNode i a end_of-AstNode) ks) node =
     (x : Node) × (node.op ≡ to.Agg x (plain ks)) × IsAgg x.ty (plain ks) node.ty × OpHas ps stored known a x
+OpHas ps stored known (Map' _ (more_of-AstNode i a end_of-AstNode) ds) node =
+    (x : Node) × (node.op ≡ to.Map x (plain_defs ds)) × (0 < length ds) × IsMap x.ty (plain_defs ds) node.ty × OpHas ps stored known a x
+OpHas ps stored known (Filter' _ (more_of-AstNode i a end_of-AstNode) e) node =
+    (x : Node) × (node.op ≡ to.Filter x (plain_expr e)) × IsFilter x.ty (plain_expr e) node.ty × OpHas ps stored known a x
+OpHas ps stored known (Promote' _ (more_of-AstNode i a end_of-AstNode) d) node =
+    (x : Node) × (node.op ≡ to.Promote x (plain_key_def d)) × IsPromote x.ty (plain_key_def d) node.ty × OpHas ps stored known a x
+OpHas ps stored known (Rename' _ (more_of-AstNode i a end_of-AstNode) pairs) node =
+    (x : Node) × (node.op ≡ to.Rename x (plain_pairs pairs)) × IsRename x.ty (plain_pairs pairs) node.ty × OpHas ps stored known a x
 -- no words yet
-OpHas ps stored known (Map' _ (more_of-AstNode i a end_of-AstNode) defs) node = ⊥
-OpHas ps stored known (Filter' _ (more_of-AstNode i a end_of-AstNode) test) node = ⊥
-OpHas ps stored known (Promote' _ (more_of-AstNode i a end_of-AstNode) def) node = ⊥
-OpHas ps stored known (Rename' _ (more_of-AstNode i a end_of-AstNode) pairs) node = ⊥
 OpHas ps stored known (Apply' _ (more_of-AstNode i a end_of-AstNode) call) node = ⊥
 
 -- the written node stands for the typed one

@@ -25,7 +25,8 @@ use Rattle.lara_types.specs.CheckedTrees.{typed, literal}
 use Rattle.lara_types.specs.HasTypes.{AreKeys, AreVals, AreEntries, LiteralHas}
 use Rattle.lara_types.specs.LiteralValues.{key_values, row_values, entry_value}
 use Rattle.lara_types.specs.NodeRuleLaws.{once_meets}
-use Rattle.lara_types.specs.NodeRules.{once_rules, key_kind_rules, val_kind_rules, key_range_rules, val_range_rules, entry_rules, entries_rules, column_rules, literal_rules}
+use Rattle.lara_types.specs.NameRules.{once_rules}
+use Rattle.lara_types.specs.NodeRules.{key_kind_rules, val_kind_rules, key_range_rules, val_range_rules, entry_rules, entries_rules, column_rules, literal_rules}
 use Rattle.lara_types.specs.RuleLaws.{met_parts, met_from, first_met, rest_met, met_cons, met_end, rules_met, rules_answer}
 use Rattle.lara_types.specs.Rules.{AllMet}
 use Rattle.lara_types.specs.Written.{plain, names_of, key_col, val_col, columns}

@@ -18,7 +18,8 @@ use Rattle.lara_syntax.specs.declared.ast.AstName.{AstName}
 use Rattle.lara_types.specs.CheckedTrees.{columns_in}
 use Rattle.lara_types.specs.Checks.{order_in}
 use Rattle.lara_types.specs.HasTypes.{IsOrder}
-use Rattle.lara_types.specs.NodeRules.{known_rules, key_rules, once_rules, join_rules, union_rules, agg_rules, order_rules}
+use Rattle.lara_types.specs.NameRules.{key_rules, once_rules}
+use Rattle.lara_types.specs.NodeRules.{known_rules, join_rules, union_rules, agg_rules, order_rules}
 use Rattle.lara_types.specs.RuleLaws.{met_parts, met_from, first_met, rest_met, met_cons, met_end}
 use Rattle.lara_types.specs.Rules.{AllMet}
 use Rattle.lara_types.specs.Written.{plain}

@@ -17,10 +17,12 @@ use Rattle.lara_syntax.specs.declared.ast.AstEntry.{AstEntry}
 use Rattle.lara_syntax.specs.declared.ast.AstLit.{AstLit}
 use Rattle.lara_syntax.specs.declared.ast.AstName.{AstName}
 use Rattle.lara_syntax.specs.declared.ast.AstOp.{AstOp}
-use Rattle.lara_syntax.specs.declared.ast.AstOp.TheVariants.{Load, Named, Literal, Join', Union', Agg'}
+use Rattle.lara_syntax.specs.declared.ast.AstOp.TheVariants.{Load, Named, Literal, Join', Union', Agg', Map', Filter', Promote', Rename'}
 use Rattle.lara_syntax.specs.declared.ast.AstType.{AstType}
 use Rattle.lara_syntax.specs.Literals.{is_key_lit, is_val_lit, is_key_in_range, is_val_in_range}
+use Rattle.lara_types.specs.EachRules.{map_rules, filter_rules, promote_rules, rename_rules}
 use Rattle.lara_types.specs.LiteralValues.{is_whole}
+use Rattle.lara_types.specs.NameRules.{key_rules, once_rules}
 use Rattle.lara_types.specs.Rules.{Rule, rule}
 use Rattle.lara_types.specs.Written.{plain, names_of, columns}
 
@@ -34,16 +36,6 @@ is_known (Some ty) = true
 -- a type was found for the name
 abbrev pub known_rules : Kind → AstName → Option Columns → List Rule
 known_rules kind n found = rule n.at kind (is_known found) ∷ []
-
--- each name is a key column's
-unfoldable pub key_rules : List KeyCol → List AstName → List Rule
-key_rules keys [] = []
-key_rules keys (n ∷ ns) = rule n.at NotAKey (has (key_names keys) n.name) ∷ key_rules keys ns
-
--- no name is among those before it
-unfoldable pub once_rules : List Name → List AstName → List Rule
-once_rules before [] = []
-once_rules before (n ∷ ns) = rule n.at NameTwice (not (has before n.name)) ∷ once_rules (before ++ n.name ∷ []) ns
 
 -- ---- operators
 
@@ -113,6 +105,10 @@ rules_of ps stored known at (Literal ty es) types = literal_rules at ty es
 rules_of ps stored known at (Join' _ x _ y) (a ∷ b ∷ []) = join_rules at a b
 rules_of ps stored known at (Union' _ x _ y) (a ∷ b ∷ []) = union_rules at a b
 rules_of ps stored known at (Agg' _ x ks) (a ∷ []) = agg_rules a ks
+rules_of ps stored known at (Map' _ x ds) (a ∷ []) = map_rules at a ds
+rules_of ps stored known at (Filter' _ x e) (a ∷ []) = filter_rules at a e
+rules_of ps stored known at (Promote' _ x d) (a ∷ []) = promote_rules at a d
+rules_of ps stored known at (Rename' _ x pairs) (a ∷ []) = rename_rules at a pairs
 -- no words yet
 rules_of ps stored known at op types = rule at Unexpected false ∷ []
 

@@ -6,10 +6,12 @@ use Rattle.lara_data.specs.declared.node.Node.{Node}
 use Rattle.lara_data.specs.declared.node.Op.{Op}
 use Rattle.lara_data.specs.declared.node.Op.TheVariants as to
 use Rattle.lara_data.specs.declared.refusal.Kind.TheVariants.{NoTable, NoName}
+use Rattle.lara_data.specs.declared.order.EachOp.TheVariants as each
 use Rattle.lara_data.specs.declared.schema.Schema.{Schema}
 use Rattle.lara_data.specs.declared.script.Statement.{Statement}
 use Rattle.lara_data.specs.declared.script.Statement.TheVariants.{Assign, Print, Store}
 use Rattle.lara_data.specs.Algebra.{join_columns, union_columns, agg_columns}
+use Rattle.lara_data.specs.Extensions.{each_columns, renamed_columns}
 use Rattle.lara_data.specs.Plugins.{Plugins}
 use Rattle.lara_data.specs.TableTypes.{Columns}
 use Rattle.lara_data.specs.TypedScripts.{known_after, all_known}
@@ -21,8 +23,10 @@ use Rattle.lara_syntax.specs.declared.ast.AstStatement.{AstStatement}
 use Rattle.lara_syntax.specs.declared.ast.AstStatement.TheVariants as ast
 use Rattle.lara_base.specs.Results.{◌>>=◌}
 use Rattle.lara_types.specs.Answered.{answered}
-use Rattle.lara_types.specs.CheckedTrees.{typed, columns_in, joined, united, summed, checked_op}
+use Rattle.lara_types.specs.CheckedTrees.{typed, columns_in, joined, united, summed, mapped, filtered, promoted, renamed, checked_op}
 use Rattle.lara_types.specs.Checks.{order_in, printed, kept, checked_statement, Progress, at_start, one_more, checked}
+use Rattle.lara_types.specs.EachRuleLaws.{map_meets, filter_meets, promote_meets, rename_meets}
+use Rattle.lara_types.specs.EachRules.{map_rules, filter_rules, promote_rules, rename_rules}
 use Rattle.lara_types.specs.HasTypes.{OpHas, StatementHas, StatementsHave, HasTypes}
 use Rattle.lara_types.specs.LiteralLaws.{literal_only}
 use Rattle.lara_types.specs.NodeRuleLaws.{join_meets, union_meets, agg_meets, known_meets, order_meets}
@@ -30,7 +34,7 @@ use Rattle.lara_types.specs.NodeRules.{known_rules, join_rules, union_rules, agg
 use Rattle.lara_types.specs.RuleLaws.{met_from, rules_answer}
 use Rattle.lara_types.specs.Rules.{by_rules}
 use Rattle.lara_types.specs.Walks.{walk}
-use Rattle.lara_types.specs.Written.{plain}
+use Rattle.lara_types.specs.Written.{plain, plain_expr, plain_defs, plain_key_def, plain_pairs}
 
 -- ---- trees
 
@@ -64,10 +68,22 @@ module _ (ps : Plugins) (stored known : List Schema) where
       (λ k. op_only i a h.0 h.3 k >>= λ x. summed x ks)
       ∙ rules_answer (agg_rules h.0.ty ks) (typed (agg_columns h.0.ty (plain ks)) (to.Agg h.0 (plain ks))) (agg_meets h.0.ty ks node.ty h.2)
       ∙ made_node (agg_columns h.0.ty (plain ks)) (to.Agg h.0 (plain ks)) node h.2.is h.1
-  op_only at (Map' _ (more_of-AstNode i a end_of-AstNode) defs) node h = absurd h
-  op_only at (Filter' _ (more_of-AstNode i a end_of-AstNode) test) node h = absurd h
-  op_only at (Promote' _ (more_of-AstNode i a end_of-AstNode) def) node h = absurd h
-  op_only at (Rename' _ (more_of-AstNode i a end_of-AstNode) pairs) node h = absurd h
+  op_only at (Map' _ (more_of-AstNode i a end_of-AstNode) ds) node h =
+      (λ k. op_only i a h.0 h.4 k >>= λ x. mapped at x ds)
+      ∙ rules_answer (map_rules at h.0.ty ds) (typed (each_columns (each.Map (plain_defs ds)) h.0.ty) (to.Map h.0 (plain_defs ds))) (map_meets at h.0.ty ds node.ty h.2 h.3)
+      ∙ made_node (each_columns (each.Map (plain_defs ds)) h.0.ty) (to.Map h.0 (plain_defs ds)) node h.3.is h.1
+  op_only at (Filter' _ (more_of-AstNode i a end_of-AstNode) test) node h =
+      (λ k. op_only i a h.0 h.3 k >>= λ x. filtered at x test)
+      ∙ rules_answer (filter_rules at h.0.ty test) (typed h.0.ty (to.Filter h.0 (plain_expr test))) (filter_meets at h.0.ty test node.ty h.2)
+      ∙ made_node h.0.ty (to.Filter h.0 (plain_expr test)) node h.2.is h.1
+  op_only at (Promote' _ (more_of-AstNode i a end_of-AstNode) def) node h =
+      (λ k. op_only i a h.0 h.3 k >>= λ x. promoted at x def)
+      ∙ rules_answer (promote_rules at h.0.ty def) (typed (each_columns (each.Promote (plain_key_def def)) h.0.ty) (to.Promote h.0 (plain_key_def def))) (promote_meets at h.0.ty def node.ty h.2)
+      ∙ made_node (each_columns (each.Promote (plain_key_def def)) h.0.ty) (to.Promote h.0 (plain_key_def def)) node h.2.is h.1
+  op_only at (Rename' _ (more_of-AstNode i a end_of-AstNode) pairs) node h =
+      (λ k. op_only i a h.0 h.3 k >>= λ x. renamed at x pairs)
+      ∙ rules_answer (rename_rules at h.0.ty pairs) (typed (renamed_columns (plain_pairs pairs) h.0.ty) (to.Rename h.0 (plain_pairs pairs))) (rename_meets at h.0.ty pairs node.ty h.2)
+      ∙ made_node (renamed_columns (plain_pairs pairs) h.0.ty) (to.Rename h.0 (plain_pairs pairs)) node h.2.is h.1
   op_only at (Apply' _ (more_of-AstNode i a end_of-AstNode) call) node h = absurd h
 
 -- ---- scripts

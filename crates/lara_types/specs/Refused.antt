@@ -15,7 +15,7 @@ use Rattle.lara_syntax.specs.declared.ast.Ast.{Ast}
 use Rattle.lara_syntax.specs.declared.ast.AstNode.{AstNode}
 use Rattle.lara_syntax.specs.declared.ast.AstOp.{AstOp}
 use Rattle.lara_syntax.specs.declared.ast.AstOp.TheBlock.{end_of-AstNode, more_of-AstNode}
-use Rattle.lara_syntax.specs.declared.ast.AstOp.TheVariants.{Join', Union', Agg'}
+use Rattle.lara_syntax.specs.declared.ast.AstOp.TheVariants.{Join', Union', Agg', Map', Filter', Promote', Rename'}
 use Rattle.lara_syntax.specs.declared.ast.AstStatement.{AstStatement}
 use Rattle.lara_syntax.specs.declared.ast.AstStatement.TheVariants as ast
 use Rattle.lara_types.specs.HasTypes.{NodeHas, StatementsHave}
@@ -27,6 +27,10 @@ unfoldable pub operands : AstOp → List AstNode
 operands (Join' _ (more_of-AstNode i a end_of-AstNode) _ (more_of-AstNode j b end_of-AstNode)) = record { at = i; op = a } ∷ record { at = j; op = b } ∷ []
 operands (Union' _ (more_of-AstNode i a end_of-AstNode) _ (more_of-AstNode j b end_of-AstNode)) = record { at = i; op = a } ∷ record { at = j; op = b } ∷ []
 operands (Agg' _ (more_of-AstNode i a end_of-AstNode) ks) = record { at = i; op = a } ∷ []
+operands (Map' _ (more_of-AstNode i a end_of-AstNode) ds) = record { at = i; op = a } ∷ []
+operands (Filter' _ (more_of-AstNode i a end_of-AstNode) e) = record { at = i; op = a } ∷ []
+operands (Promote' _ (more_of-AstNode i a end_of-AstNode) d) = record { at = i; op = a } ∷ []
+operands (Rename' _ (more_of-AstNode i a end_of-AstNode) pairs) = record { at = i; op = a } ∷ []
 -- no words yet, or no tables
 operands op = []
 

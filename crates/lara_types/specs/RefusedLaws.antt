@@ -7,10 +7,12 @@ use Rattle.lara_data.specs.declared.refusal.Kind.TheVariants.{NoName}
 use Rattle.lara_data.specs.declared.refusal.Refusal.{Refusal}
 use Rattle.lara_data.specs.declared.refusal.ReadFault.{ReadFault}
 use Rattle.lara_data.specs.declared.refusal.ReadFault.TheVariants as faults
+use Rattle.lara_data.specs.declared.order.EachOp.TheVariants as each
 use Rattle.lara_data.specs.declared.schema.Schema.{Schema}
 use Rattle.lara_data.specs.declared.script.Statement.{Statement}
 use Rattle.lara_data.specs.declared.script.Statement.TheVariants.{Assign, Print, Store}
 use Rattle.lara_data.specs.Algebra.{join_columns, union_columns, agg_columns}
+use Rattle.lara_data.specs.Extensions.{each_columns, renamed_columns}
 use Rattle.lara_data.specs.Judgements.{Judged, FaultJudges}
 use Rattle.lara_data.specs.Plugins.{Plugins}
 use Rattle.lara_data.specs.TableTypes.{Columns}
@@ -25,7 +27,7 @@ use Rattle.lara_syntax.specs.declared.ast.AstStatement.{AstStatement}
 use Rattle.lara_syntax.specs.declared.ast.AstStatement.TheVariants as ast
 use Rattle.lara_base.specs.Results.{◌>>=◌}
 use Rattle.lara_types.specs.Answered.{answered}
-use Rattle.lara_types.specs.CheckedTrees.{typed, columns_in, joined, united, summed, checked_op, checked_node}
+use Rattle.lara_types.specs.CheckedTrees.{typed, columns_in, joined, united, summed, mapped, filtered, promoted, renamed, checked_op, checked_node}
 use Rattle.lara_types.specs.Checks.{order_in, checked_statement, Progress, at_start, one_more, checked}
 use Rattle.lara_types.specs.Found.{op_found, one_found}
 use Rattle.lara_types.specs.HasTypes.{StatementHas, StatementsHave, HasTypes}
@@ -37,7 +39,7 @@ use Rattle.lara_types.specs.RuleLaws.{broken_is, is_broken, rules_refused, rules
 use Rattle.lara_types.specs.Rules.{by_rules, first_broken}
 use Rattle.lara_types.specs.WalkLaws.{walk-append}
 use Rattle.lara_types.specs.Walks.{walk}
-use Rattle.lara_types.specs.Written.{plain, columns}
+use Rattle.lara_types.specs.Written.{plain, columns, plain_expr, plain_defs, plain_key_def, plain_pairs}
 
 -- ---- a node, by its operands
 
@@ -65,6 +67,10 @@ module _ (ps : Plugins) (stored known : List Schema) where
   made (Join' _ x _ y) (a ∷ b ∷ []) = typed (join_columns a.ty b.ty) (to.Join a b)
   made (Union' _ x _ y) (a ∷ b ∷ []) = typed (union_columns a.ty b.ty) (to.Union a b)
   made (Agg' _ x ks) (a ∷ []) = typed (agg_columns a.ty (plain ks)) (to.Agg a (plain ks))
+  made (Map' _ x ds) (a ∷ []) = typed (each_columns (each.Map (plain_defs ds)) a.ty) (to.Map a (plain_defs ds))
+  made (Filter' _ x e) (a ∷ []) = typed a.ty (to.Filter a (plain_expr e))
+  made (Promote' _ x d) (a ∷ []) = typed (each_columns (each.Promote (plain_key_def d)) a.ty) (to.Promote a (plain_key_def d))
+  made (Rename' _ x pairs) (a ∷ []) = typed (renamed_columns (plain_pairs pairs) a.ty) (to.Rename a (plain_pairs pairs))
   made op ns = typed (record { keys = []; vals = [] }) (to.Load [])
 
   -- the columns of nodes
@@ -83,10 +89,10 @@ module _ (ps : Plugins) (stored known : List Schema) where
   by_operands at (Join' _ (more_of-AstNode i a end_of-AstNode) _ (more_of-AstNode j b end_of-AstNode)) = two_steps (checked_op ps stored known i a) (checked_op ps stored known j b) (joined at) _ (λ x y. refl)
   by_operands at (Union' _ (more_of-AstNode i a end_of-AstNode) _ (more_of-AstNode j b end_of-AstNode)) = two_steps (checked_op ps stored known i a) (checked_op ps stored known j b) (united at) _ (λ x y. refl)
   by_operands at (Agg' _ (more_of-AstNode i a end_of-AstNode) ks) = one_step (checked_op ps stored known i a) (λ x. summed x ks) _ (λ x. refl)
-  by_operands at (Map' _ (more_of-AstNode i a end_of-AstNode) defs) = refl
-  by_operands at (Filter' _ (more_of-AstNode i a end_of-AstNode) test) = refl
-  by_operands at (Promote' _ (more_of-AstNode i a end_of-AstNode) def) = refl
-  by_operands at (Rename' _ (more_of-AstNode i a end_of-AstNode) pairs) = refl
+  by_operands at (Map' _ (more_of-AstNode i a end_of-AstNode) defs) = one_step (checked_op ps stored known i a) (λ x. mapped at x defs) _ (λ x. refl)
+  by_operands at (Filter' _ (more_of-AstNode i a end_of-AstNode) test) = one_step (checked_op ps stored known i a) (λ x. filtered at x test) _ (λ x. refl)
+  by_operands at (Promote' _ (more_of-AstNode i a end_of-AstNode) def) = one_step (checked_op ps stored known i a) (λ x. promoted at x def) _ (λ x. refl)
+  by_operands at (Rename' _ (more_of-AstNode i a end_of-AstNode) pairs) = one_step (checked_op ps stored known i a) (λ x. renamed at x pairs) _ (λ x. refl)
   by_operands at (Apply' _ (more_of-AstNode i a end_of-AstNode) call) = refl
 
   -- ---- what is refused is judged so
@@ -177,6 +183,10 @@ module _ (ps : Plugins) (stored known : List Schema) where
   op_refused at (Union' p (more_of-AstNode i a end_of-AstNode) q (more_of-AstNode j b end_of-AstNode)) r e =
       step at (Union' p (more_of-AstNode i a end_of-AstNode) q (more_of-AstNode j b end_of-AstNode)) r e ((λ s d. op_refused i a s d), ((λ s d. op_refused j b s d), tt))
   op_refused at (Agg' p (more_of-AstNode i a end_of-AstNode) ks) r e = step at (Agg' p (more_of-AstNode i a end_of-AstNode) ks) r e ((λ s d. op_refused i a s d), tt)
+  op_refused at (Map' p (more_of-AstNode i a end_of-AstNode) ds) r e = step at (Map' p (more_of-AstNode i a end_of-AstNode) ds) r e ((λ s d. op_refused i a s d), tt)
+  op_refused at (Filter' p (more_of-AstNode i a end_of-AstNode) test) r e = step at (Filter' p (more_of-AstNode i a end_of-AstNode) test) r e ((λ s d. op_refused i a s d), tt)
+  op_refused at (Promote' p (more_of-AstNode i a end_of-AstNode) def) r e = step at (Promote' p (more_of-AstNode i a end_of-AstNode) def) r e ((λ s d. op_refused i a s d), tt)
+  op_refused at (Rename' p (more_of-AstNode i a end_of-AstNode) pairs) r e = step at (Rename' p (more_of-AstNode i a end_of-AstNode) pairs) r e ((λ s d. op_refused i a s d), tt)
   op_refused at op r e = step at op r e tt
 
 -- ---- statements

@@ -2,7 +2,8 @@
 ghost use Rattle.std.specs.Prelude.{◌≡◌, []};
 ghost use Rattle.std.specs.List.{list_any};
 ghost use Rattle.std.specs.Str.{bytes_eq};
-ghost use Rattle.lara_types.specs.NodeRules.{key_rules, once_rules, agg_rules};
+ghost use Rattle.lara_types.specs.NameRules.{key_rules, once_rules};
+ghost use Rattle.lara_types.specs.NodeRules.{agg_rules};
 ghost use Rattle.lara_types.specs.Rules.{first_broken};
 
 use crate::refuse::refusal;

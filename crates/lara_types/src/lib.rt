@@ -3,17 +3,27 @@
 
 mod agg_places;
 mod differ;
+mod each_places;
+mod each_trees;
+mod each_types;
+mod expr_types;
 mod literal_entries;
 mod literal_types;
 mod named;
 mod orders;
 mod refuse;
+mod rename_types;
 mod rules;
 mod scripts;
 mod stored;
 mod trees;
+mod typed_exprs;
+mod written;
 
+pub use each_types::{type_filter, type_map, type_promote};
+pub use expr_types::expr_type;
 pub use lara_data::Schema;
+pub use rename_types::type_rename;
 pub use rules::{Typed, type_agg, type_join, type_union};
 pub use scripts::check;
 

@@ -14,8 +14,8 @@ use lara_syntax::{AstKeyCol, AstName, AstType, AstValCol};
 use std::alloc::Global;
 use std::collections::BTreeSet;
 
-// One name more, which has not stood before.
-fn see(alloc: Global, seen: &mut BTreeSet<Bytes>, name: &AstName) -> Result<(), ReadFault>
+/// One name more, which has not stood before.
+pub fn see(alloc: Global, seen: &mut BTreeSet<Bytes>, name: &AstName) -> Result<(), ReadFault>
     ensures gives { (names : List (List ℕ)) → Holds seen.old names → Judges (λ _. names ++ name.now.name ∷ []) (one_more_name names name.now) result }
     ensures holds { (names : List (List ℕ)) → Holds seen.old names → OnOk result (Holds seen.new (names ++ name.now.name ∷ [])) }
 {

@@ -3,9 +3,10 @@ ghost use Rattle.std.specs.Prelude.{◌≡◌};
 ghost use Rattle.std.specs.List.{list_all};
 ghost use Rattle.lara_data.specs.Names.{has, among, distinct};
 ghost use Rattle.lara_data.specs.TableTypes.{key_names};
+ghost use Rattle.lara_data.specs.TypeRules.{names_of};
 
 use lara_base::Name;
-use lara_data::{KeyCol, is_key_name};
+use lara_data::{KeyCol, TableType, is_key_name, is_val_name};
 
 /// Whether a name is among others.
 #[tactic(auto, unfolding(lara_data::specs::Names::has, lara_data::specs::Names::same_name))]
@@ -44,4 +45,12 @@ pub fn are_distinct(names: &[Name]) -> bool
             }
         }
     }
+}
+
+/// Whether a column has the name.
+#[tactic(auto, using(lara_data::specs::Names::has_append))]
+pub fn is_column_name(ty: &TableType, name: &Name) -> bool
+    ensures { result ≡ has (names_of ty.now) name.now }
+{
+    is_key_name(ty.keys.as_slice(), name) || is_val_name(ty.vals.as_slice(), name)
 }

@@ -5,8 +5,8 @@ ghost use Rattle.lara_types.specs.StoredTypes.{AllColumns};
 
 use lara_data::{Schema, TableType};
 
-// The columns of a type are a table's, as it keeps of itself.
-fn has_columns(ty: &TableType)
+/// The columns of a type are a table's, as it keeps of itself. This does nothing but to say so.
+pub fn has_columns(ty: &TableType)
     ensures { are_columns ty.now.keys ty.now.vals ≡ true }
 {
     let _keys = &ty.keys;

@@ -12,6 +12,7 @@ ghost use Rattle.lara_types.specs.Rules.{first_broken, by_rules};
 ghost use Rattle.lara_types.specs.Written.{plain};
 
 use crate::agg_places::agg_refusal;
+use crate::each_trees::{filter_of, map_of, promote_of, rename_of};
 use crate::literal_entries::entries_of;
 use crate::literal_types::literal_type;
 use crate::orders::plain_names;
@@ -168,11 +169,23 @@ pub fn node_of(
             let table = node_of(alloc, stored, known, plugins, a.get())?;
             agg_of(alloc, table, keys)
         }
+        AstOp::Map(a, defs) => {
+            let table = node_of(alloc, stored, known, plugins, a.get())?;
+            map_of(alloc, node.at, table, defs.list().as_slice())
+        }
+        AstOp::Filter(a, test) => {
+            let table = node_of(alloc, stored, known, plugins, a.get())?;
+            filter_of(alloc, node.at, table, test)
+        }
+        AstOp::Promote(a, def) => {
+            let table = node_of(alloc, stored, known, plugins, a.get())?;
+            promote_of(alloc, node.at, table, def)
+        }
+        AstOp::Rename(a, pairs) => {
+            let table = node_of(alloc, stored, known, plugins, a.get())?;
+            rename_of(alloc, node.at, table, pairs.as_slice())
+        }
         // no words yet: these are in no script
-        AstOp::Map(_, _) => Err(refused(node.at, Kind::Unexpected)),
-        AstOp::Filter(_, _) => Err(refused(node.at, Kind::Unexpected)),
-        AstOp::Promote(_, _) => Err(refused(node.at, Kind::Unexpected)),
-        AstOp::Rename(_, _) => Err(refused(node.at, Kind::Unexpected)),
         AstOp::Apply(_, _) => Err(refused(node.at, Kind::Unexpected)),
     }
 }

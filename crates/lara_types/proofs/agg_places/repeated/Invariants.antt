@@ -1,5 +1,5 @@
 use Rattle.std.proofs.Common.{◌≡◌, ◌≤◌, ◌-◌, [], length, take, drop}
-use Rattle.lara_types.specs.NodeRules.{once_rules}
+use Rattle.lara_types.specs.NameRules.{once_rules}
 use Rattle.lara_types.specs.Rules.{first_broken}
 use Rattle.lara_types.specs.Written.{plain}
 use Rattle.lara_types.proofs.agg_places.repeated.Given as goal

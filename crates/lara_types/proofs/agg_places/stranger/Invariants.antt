@@ -1,5 +1,5 @@
 use Rattle.std.proofs.Common.{◌≡◌, drop}
-use Rattle.lara_types.specs.NodeRules.{key_rules}
+use Rattle.lara_types.specs.NameRules.{key_rules}
 use Rattle.lara_types.specs.Rules.{first_broken}
 use Rattle.lara_types.proofs.agg_places.stranger.Given as goal
 
