@@ -159,7 +159,6 @@ pub fn ext(
     requires { EachTyped a.now.ty op.now (each_columns op.now a.now.ty) }
     ensures { IfOk result (λ r. r ≡ ext (handed ⟦<dyn Plugin as Plugin>⟧ plugins.now.items) op.now a.now) }
 {
-    let _plugins = plugins;
     match op {
         EachOp::Map(defs) => map_table(alloc, a, defs),
         EachOp::Filter(test) => filter_table(alloc, a, test),
