@@ -223,6 +223,14 @@ fn at_most_64_levels_are_open(rt: HostRuntime) -> Result<(), Fail> {
 fn at_most_1024_operators_stand_in_a_statement(rt: HostRuntime) -> Result<(), Fail> {
     let alloc = rt.alloc();
     assert!(rt; keeps(alloc, 1024, b"", b" or f")?);
-    assert!(rt; breaks(alloc, 1025, b"", b" or f", b"lara: script byte 5182: TooMany\n")?);
+    assert!(rt;
+        breaks(
+            alloc,
+            1025,
+            b"",
+            b" or f",
+            b"lara: script byte 5182: TooMany\n"
+        )?
+    );
     Ok(())
 }
