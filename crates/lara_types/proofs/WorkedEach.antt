@@ -1,6 +1,6 @@
 -- Maps, filters, promotes, renames and their expressions worked out by hand: each shows which rule comes first, and where it
 -- is broken.
-use Rattle.std.specs.Prelude.{◌≡◌, ◌+◌, ◌-◌, ◌^◌, ℕ, List, [], ◌∷◌, Some, None, Ok, Err}
+use Rattle.std.specs.Prelude.{◌≡◌, ◌+◌, ◌-◌, ◌^◌, ℕ, List, [], ◌∷◌, None, Ok}
 use Rattle.std.proofs.Common.{refl}
 use Rattle.lara_key.specs.declared.key.KeyType.TheVariants as key_type
 use Rattle.lara_semiring.specs.declared.value.ValType.{ValType}
@@ -10,17 +10,12 @@ use Rattle.lara_data.specs.declared.expr.FunOp.TheVariants as fun
 use Rattle.lara_data.specs.declared.expr.TwoOp.{TwoOp}
 use Rattle.lara_data.specs.declared.expr.TwoOp.TheVariants as two
 use Rattle.lara_data.specs.declared.expr_val.ExprType.TheVariants as type
-use Rattle.lara_data.specs.declared.refusal.Kind.TheVariants.{NoName, NameTwice, TypesDiffer, NotInRange, TooManyColumns}
-use Rattle.lara_data.specs.declared.table_type.KeyCol.{KeyCol}
-use Rattle.lara_data.specs.declared.table_type.ValCol.{ValCol}
+use Rattle.lara_data.specs.declared.refusal.Kind.TheVariants.{NoName, NameTwice, TypesDiffer, TooManyColumns}
 use Rattle.lara_data.specs.ExprTypes.{key_column_type, val_column_type, expr_type}
 use Rattle.lara_data.specs.Extensions.{each_columns, new_name, renamed_columns}
 use Rattle.lara_data.specs.Names.{Name, same_name, has, distinct}
 use Rattle.lara_data.specs.TableTypes.{Columns, are_columns}
-use Rattle.lara_data.specs.TypeRules.{too_many}
-use Rattle.lara_syntax.specs.declared.ast.AstKeyCol.{AstKeyCol}
 use Rattle.lara_syntax.specs.declared.ast.AstName.{AstName}
-use Rattle.lara_syntax.specs.declared.ast.AstValCol.{AstValCol}
 use Rattle.lara_syntax.specs.declared.ast_expr.AstExpr.{AstExpr}
 use Rattle.lara_syntax.specs.declared.ast_expr.AstForm.TheVariants as form
 use Rattle.lara_syntax.specs.declared.ast_part.AstDef.{AstDef}
